@@ -1,0 +1,28 @@
+-- The Unibus: what stands at an 18-bit address. Memory lies from 0 up, and nothing else answers yet, the I/O page from
+-- 760000 among it. A reference is made in a turn, whose number a device register may show.
+use Rattle.std.specs.Prelude.{ℕ, ◌*◌, ◌/◌, Bool, length, replicate, slice_index, slice_set, Result, Ok, Err, nat_lt, if◌then◌else◌}
+use Rattle.p11_cpu.specs.State.{BusState}
+use Rattle.p11_cpu.specs.declared.bus.TimeOut.{TimeOut}
+
+-- so many thousand (1,024) words of memory, all 0
+abbrev pub new_bus : ℕ → BusState
+new_bus kwords = record { memory = replicate (kwords * 1024) 0 }
+
+-- whether an even address has a word
+unfoldable pub bus_answers : ℕ → BusState → Bool
+bus_answers address bus = nat_lt (address / 2) (length bus.memory)
+
+-- the word that shows at an even address that answers
+unfoldable pub see : ℕ → ℕ → BusState → ℕ
+see turn address bus = slice_index bus.memory (address / 2)
+
+-- the bus once a word is written at an even address that answers
+unfoldable pub changed_at : ℕ → ℕ → ℕ → BusState → BusState
+changed_at turn address word bus = record bus { memory = slice_set bus.memory (address / 2) word }
+
+-- a reference to an even address: the bus after it, and the word; or a time-out, and the bus as it was
+unfoldable pub read_of : ℕ → ℕ → BusState → BusState × Result ℕ TimeOut
+read_of turn address bus = if bus_answers address bus then (bus, Ok (see turn address bus)) else (bus, Err (record {}))
+
+unfoldable pub write_of : ℕ → ℕ → ℕ → BusState → BusState × Result (Unit {0}) TimeOut
+write_of turn address word bus = if bus_answers address bus then (changed_at turn address word bus, Ok tt) else (bus, Err (record {}))

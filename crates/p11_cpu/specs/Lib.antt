@@ -1,0 +1,10 @@
+pub mod State
+pub mod Step
+pub mod Registers
+pub mod Bus
+pub mod References
+pub mod Operands
+pub mod Moves
+pub mod Instructions
+pub mod Turns
+pub mod Operator

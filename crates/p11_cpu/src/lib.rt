@@ -1,0 +1,24 @@
+//! The central processor of a PDP-11/40 with its bus, turn by turn.
+//!
+//! In a turn the machine runs one instruction. What it does is defined in `specs/`: `Turns.antt` has the turn,
+//! `Instructions.antt` the list of moves of each instruction.
+#![tactic(auto)]
+
+mod bus;
+mod hardware;
+mod instructions;
+mod machine;
+mod memory;
+mod operand;
+mod registers;
+mod trap;
+mod turn;
+
+pub use bus::{Bus, TimeOut};
+pub use hardware::Hardware;
+pub use machine::Machine;
+pub use memory::Memory;
+pub use operand::Place;
+pub use registers::Registers;
+pub use trap::Trap;
+pub use turn::Turn;

@@ -1,0 +1,233 @@
+ghost use Rattle.std.specs.Prelude.{◌≡◌, ◌<◌, ◌%◌, ◌/◌, ◌++◌};
+ghost use Rattle.p11_decode.specs.Table.{code_rows, control_rows, double_rows, exact_rows, first_fit, mode_at, named_codes, op_of, operand_at, register_at, register_rows, return_rows, single_rows, size, sized_double_rows, trap_rows};
+
+use crate::op::{Condition, Count, NamedCodes, Op};
+use crate::operand::{Mode, Operand, Register, Size};
+
+fn register_of(number: u16) -> Register
+    requires { number < 8 }
+    ensures { result ≡ register_at number }
+{
+    match number {
+        0 => Register::R0,
+        1 => Register::R1,
+        2 => Register::R2,
+        3 => Register::R3,
+        4 => Register::R4,
+        5 => Register::R5,
+        6 => Register::Sp,
+        _ => Register::Pc,
+    }
+}
+
+fn mode_of(number: u16) -> Mode
+    requires { number < 8 }
+    ensures { result ≡ mode_at number }
+{
+    match number {
+        0 => Mode::Register,
+        1 => Mode::RegisterDeferred,
+        2 => Mode::AutoIncrement,
+        3 => Mode::AutoIncrementDeferred,
+        4 => Mode::AutoDecrement,
+        5 => Mode::AutoDecrementDeferred,
+        6 => Mode::Index,
+        _ => Mode::IndexDeferred,
+    }
+}
+
+// The operand in the low six bits.
+fn operand_of(bits: u16) -> Operand
+    ensures { result ≡ operand_at bits }
+{
+    Operand {
+        mode: mode_of(bits >> 3 & 7),
+        register: register_of(bits & 7),
+    }
+}
+
+// The count in the low six bits.
+fn count_of(word: u16) -> Count
+    ensures { result ≡ word % 64 }
+{
+    Count::new((word & 0o77) as u8)
+}
+
+// The register in bits 8 to 6.
+fn first_register(word: u16) -> Register
+    ensures { result ≡ register_at (word / 64 % 8) }
+{
+    register_of(word >> 6 & 7)
+}
+
+fn size_of(word: u16) -> Size
+    ensures { result ≡ size word }
+{
+    match word >> 15 & 1 {
+        0 => Size::Word,
+        _ => Size::Byte,
+    }
+}
+
+fn named_codes_of(word: u16) -> NamedCodes
+    ensures { result ≡ named_codes word }
+{
+    NamedCodes {
+        n: word >> 3 & 1 == 1,
+        z: word >> 2 & 1 == 1,
+        v: word >> 1 & 1 == 1,
+        c: word & 1 == 1,
+    }
+}
+
+/// The instruction that a word is.
+#[tactic(auto, unfolding(crate::specs::Table::op_of))]
+pub fn decode(word: u16) -> Op
+    ensures { result ≡ op_of word }
+{
+    let size = size_of(word);
+    let destination = operand_of(word);
+    match word & 0o077700 {
+        0o005000 => Op::Clr(size, destination),
+        0o005100 => Op::Com(size, destination),
+        0o005200 => Op::Inc(size, destination),
+        0o005300 => Op::Dec(size, destination),
+        0o005400 => Op::Neg(size, destination),
+        0o005500 => Op::Adc(size, destination),
+        0o005600 => Op::Sbc(size, destination),
+        0o005700 => Op::Tst(size, destination),
+        0o006000 => Op::Ror(size, destination),
+        0o006100 => Op::Rol(size, destination),
+        0o006200 => Op::Asr(size, destination),
+        0o006300 => Op::Asl(size, destination),
+        _ => decode_single(word),
+    }
+}
+
+fn decode_single(word: u16) -> Op
+    ensures { result ≡ first_fit (single_rows ++ (sized_double_rows ++ (double_rows ++ (register_rows ++ control_rows)))) word }
+{
+    let destination = operand_of(word);
+    match word & 0o177700 {
+        0o000100 => Op::Jmp(destination),
+        0o000300 => Op::Swab(destination),
+        0o006400 => Op::Mark(count_of(word)),
+        0o006500 => Op::Mfpi(destination),
+        0o006600 => Op::Mtpi(destination),
+        0o006700 => Op::Sxt(destination),
+        _ => decode_sized_double(word),
+    }
+}
+
+fn decode_sized_double(word: u16) -> Op
+    ensures { result ≡ first_fit (sized_double_rows ++ (double_rows ++ (register_rows ++ control_rows))) word }
+{
+    let size = size_of(word);
+    let source = operand_of(word >> 6);
+    let destination = operand_of(word);
+    match word & 0o070000 {
+        0o010000 => Op::Mov(size, source, destination),
+        0o020000 => Op::Cmp(size, source, destination),
+        0o030000 => Op::Bit(size, source, destination),
+        0o040000 => Op::Bic(size, source, destination),
+        0o050000 => Op::Bis(size, source, destination),
+        _ => decode_double(word),
+    }
+}
+
+fn decode_double(word: u16) -> Op
+    ensures { result ≡ first_fit (double_rows ++ (register_rows ++ control_rows)) word }
+{
+    let source = operand_of(word >> 6);
+    let destination = operand_of(word);
+    match word & 0o170000 {
+        0o060000 => Op::Add(source, destination),
+        0o160000 => Op::Sub(source, destination),
+        _ => decode_with_register(word),
+    }
+}
+
+fn decode_with_register(word: u16) -> Op
+    ensures { result ≡ first_fit (register_rows ++ control_rows) word }
+{
+    let register = first_register(word);
+    let operand = operand_of(word);
+    match word & 0o177000 {
+        0o004000 => Op::Jsr(register, operand),
+        0o070000 => Op::Mul(register, operand),
+        0o071000 => Op::Div(register, operand),
+        0o072000 => Op::Ash(register, operand),
+        0o073000 => Op::Ashc(register, operand),
+        0o074000 => Op::Xor(register, operand),
+        0o077000 => Op::Sob(register, count_of(word)),
+        _ => decode_branch(word),
+    }
+}
+
+fn decode_branch(word: u16) -> Op
+    ensures { result ≡ first_fit control_rows word }
+{
+    let offset = (word & 0o377) as u8;
+    match word & 0o177400 {
+        0o000400 => Op::Branch(Condition::Always, offset),
+        0o001000 => Op::Branch(Condition::NotEqual, offset),
+        0o001400 => Op::Branch(Condition::Equal, offset),
+        0o002000 => Op::Branch(Condition::GreaterOrEqual, offset),
+        0o002400 => Op::Branch(Condition::Less, offset),
+        0o003000 => Op::Branch(Condition::Greater, offset),
+        0o003400 => Op::Branch(Condition::LessOrEqual, offset),
+        0o100000 => Op::Branch(Condition::Plus, offset),
+        0o100400 => Op::Branch(Condition::Minus, offset),
+        0o101000 => Op::Branch(Condition::Higher, offset),
+        0o101400 => Op::Branch(Condition::LowerOrSame, offset),
+        0o102000 => Op::Branch(Condition::OverflowClear, offset),
+        0o102400 => Op::Branch(Condition::OverflowSet, offset),
+        0o103000 => Op::Branch(Condition::CarryClear, offset),
+        0o103400 => Op::Branch(Condition::CarrySet, offset),
+        _ => decode_trap(word),
+    }
+}
+
+fn decode_trap(word: u16) -> Op
+    ensures { result ≡ first_fit (trap_rows ++ (code_rows ++ (return_rows ++ exact_rows))) word }
+{
+    match word & 0o177400 {
+        0o104000 => Op::Emt,
+        0o104400 => Op::Trap,
+        _ => decode_codes(word),
+    }
+}
+
+fn decode_codes(word: u16) -> Op
+    ensures { result ≡ first_fit (code_rows ++ (return_rows ++ exact_rows)) word }
+{
+    match word & 0o177760 {
+        0o000240 => Op::ClearCodes(named_codes_of(word)),
+        0o000260 => Op::SetCodes(named_codes_of(word)),
+        _ => decode_return(word),
+    }
+}
+
+fn decode_return(word: u16) -> Op
+    ensures { result ≡ first_fit (return_rows ++ exact_rows) word }
+{
+    match word & 0o177770 {
+        0o000200 => Op::Rts(register_of(word & 7)),
+        _ => decode_exact(word),
+    }
+}
+
+fn decode_exact(word: u16) -> Op
+    ensures { result ≡ first_fit exact_rows word }
+{
+    match word {
+        0o000000 => Op::Halt,
+        0o000001 => Op::Wait,
+        0o000002 => Op::Rti,
+        0o000003 => Op::Bpt,
+        0o000004 => Op::Iot,
+        0o000005 => Op::Reset,
+        0o000006 => Op::Rtt,
+        _ => Op::Reserved,
+    }
+}

@@ -1,0 +1,13 @@
+//! Which PDP-11/40 instruction a word is.
+//!
+//! `decode` answers for each of the 65,536 words, by the processor handbook's instruction table, which stands as rows
+//! in `specs/Table.antt`. A word that no row fits is `Op::Reserved`.
+#![tactic(auto)]
+
+mod decoding;
+mod op;
+mod operand;
+
+pub use decoding::decode;
+pub use op::{Condition, Count, NamedCodes, Op};
+pub use operand::{Mode, Operand, Register, Size};

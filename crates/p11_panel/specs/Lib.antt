@@ -1,0 +1,5 @@
+pub mod Sizes
+pub mod Runs
+pub mod Ranges
+pub mod Commands
+pub mod Play

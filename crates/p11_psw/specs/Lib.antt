@@ -1,0 +1,4 @@
+pub mod Fields
+pub mod Status
+pub mod Sources
+pub mod Vectors

@@ -1,0 +1,16 @@
+//! The processor status word of the PDP-11/40, its three sources, and the vectors of traps and interrupts.
+#![tactic(auto)]
+
+mod laws;
+mod mode;
+mod priority;
+mod psw;
+#[cfg(test)]
+mod tests;
+mod vector;
+
+pub use laws::{fields_stand_in_word, word_gives_fields, word_has_16_bits};
+pub use mode::Mode;
+pub use priority::Priority;
+pub use psw::Psw;
+pub use vector::Vector;

@@ -1,0 +1,124 @@
+ghost use Rattle.std.specs.Prelude.{◌≡◌, ◌≤◌, ◌<◌, ◌*◌, ◌/◌, ◌%◌, ◌^◌, ◌==◌};
+ghost use Rattle.p11_psw.specs.Fields.{flag_number};
+ghost use Rattle.p11_psw.specs.Sources.{status_from_return, status_from_vector, status_from_write};
+ghost use Rattle.p11_psw.specs.Status.{new_status, status_of, status_word};
+
+use crate::mode::Mode;
+use crate::priority::Priority;
+
+/// The processor's status: its modes, its priority, the trace bit T and the condition codes N, Z, V and C.
+#[derive(Clone, Copy, Debug, PartialEq, Eq)]
+pub struct Psw {
+    pub current: Mode,
+    pub previous: Mode,
+    pub priority: Priority,
+    pub trace: bool,
+    pub n: bool,
+    pub z: bool,
+    pub v: bool,
+    pub c: bool,
+}
+
+/// The flag as a bit of this weight.
+fn flag_bit(flag: bool, weight: u16) -> u16
+    ensures value { result ≡ flag_number flag * weight }
+    ensures bound { result ≤ weight }
+{
+    if flag { weight } else { 0 }
+}
+
+/// Whether the word's bit at this place is set.
+fn flag_at(word: u16, place: u32) -> bool
+    requires { place < 16 }
+    ensures { result ≡ (word / 2 ^ place % 2 == 1) }
+{
+    word >> place & 1 == 1
+}
+
+impl Psw {
+    /// The status of a new machine, whose word is 0.
+    #[tactic(auto, unfolding(crate::specs::Status::new_status))]
+    pub fn new() -> Psw
+        ensures { result ≡ new_status }
+    {
+        Psw {
+            current: Mode::Kernel,
+            previous: Mode::Kernel,
+            priority: Priority::Level0,
+            trace: false,
+            n: false,
+            z: false,
+            v: false,
+            c: false,
+        }
+    }
+
+    /// The word that shows at the status word's bus address, and that a trap or an interrupt pushes.
+    #[tactic(auto, unfolding(crate::specs::Status::status_word))]
+    pub fn word(self) -> u16
+        ensures { result ≡ status_word self }
+    {
+        let modes = self.current.number() * 0o40000 + self.previous.number() * 0o10000;
+        let codes = flag_bit(self.n, 8)
+            + flag_bit(self.z, 4)
+            + flag_bit(self.v, 2)
+            + flag_bit(self.c, 1);
+        modes + self.priority.number() * 0o40 + flag_bit(self.trace, 0o20) + codes
+    }
+
+    /// The status that a word says: every field, and nothing of bits 11:8.
+    #[tactic(auto, unfolding(crate::specs::Status::status_of))]
+    pub fn from_word(word: u16) -> Psw
+        ensures { result ≡ status_of word }
+    {
+        Psw {
+            current: Mode::from_number(word >> 14),
+            previous: Mode::from_number(word >> 12 & 3),
+            priority: Priority::from_number(word >> 5 & 7),
+            trace: flag_at(word, 4),
+            n: flag_at(word, 3),
+            z: flag_at(word, 2),
+            v: flag_at(word, 1),
+            c: flag_at(word, 0),
+        }
+    }
+
+    /// The status after a trap or an interrupt whose vector has this second word.
+    #[tactic(auto, unfolding(crate::specs::Sources::status_from_vector))]
+    pub fn from_vector(before: Psw, word: u16) -> Psw
+        ensures { result ≡ status_from_vector before word }
+    {
+        Psw {
+            previous: before.current,
+            ..Psw::from_word(word)
+        }
+    }
+
+    /// The status after RTI or RTT has popped this word.
+    #[tactic(auto, unfolding(crate::specs::Sources::status_from_return))]
+    pub fn from_rti(before: Psw, word: u16) -> Psw
+        ensures { result ≡ status_from_return before word }
+    {
+        let popped = Psw::from_word(word);
+        match before.current {
+            Mode::Kernel => popped,
+            Mode::Mode01 | Mode::Mode10 | Mode::User => Psw {
+                current: popped.current.joined(before.current),
+                previous: popped.previous.joined(before.previous),
+                priority: before.priority,
+                ..popped
+            },
+        }
+    }
+
+    /// The status after this word has been written to the status word's bus address, 777776.
+    #[tactic(auto, unfolding(crate::specs::Sources::status_from_write))]
+    pub fn explicit_write(before: Psw, word: u16) -> Psw
+        ensures { result ≡ status_from_write before word }
+    {
+        Psw {
+            trace: before.trace,
+            ..Psw::from_word(word)
+        }
+    }
+}
