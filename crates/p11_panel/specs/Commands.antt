@@ -11,7 +11,7 @@ use Rattle.p11_lines.specs.declared.answer.Registers.{Registers}
 use Rattle.p11_lines.specs.declared.answer.StopReason.{StopReason}
 use Rattle.p11_psw.specs.Status.{status_word}
 use Rattle.p11_cpu.specs.State.{State, Processor}
-use Rattle.p11_cpu.specs.Operator.{start_of}
+use Rattle.p11_cpu.specs.Operator.{examine_of, start_of}
 use Rattle.p11_panel.specs.declared.command.Command.{Command}
 use Rattle.p11_panel.specs.declared.command.Command.TheVariants as commands
 use Rattle.p11_panel.specs.Ranges.{all_answer, words_at, deposited}
@@ -25,9 +25,9 @@ examine_fault address n s =
     else (if address % 2 == 1 then Some OddAddress
     else (if all_answer address n s then None else Some NoAnswer)))
 
--- one word, or a list of words
-unfoldable pub shown : {A : Type 0} → ℕ → List ℕ → Answer A
-shown address words = if length words == 1 then answers.Word address (first_of words) else answers.Words address words
+-- what it answers: a word, or a list of words
+unfoldable pub shown : {A : Type 0} → ℕ → ℕ → State → Answer A
+shown address n s = if n == 1 then answers.Word address (examine_of address s) else answers.Words address (words_at address n s)
 
 -- whether more than one word is written, and the last of them to the I/O page, which is 760000 and up
 unfoldable pub touches_io_page : ℕ → ℕ → Bool
@@ -52,3 +52,49 @@ step_fault n s =
     if n == 0 then Some TooMany
     else (if nat_lt 100000000 n then Some TooMany
     else (if nat_lt 0x4000_0000_0000_0000 (s.turns + n) then Some TooMany else None))
+
+-- REGS: the processor's registers and status, the count of turns, and the mark
+abbrev pub mark_of : Processor → Mark
+mark_of p = if p.halted then Halted else (if p.waiting then Waiting else Ready)
+
+unfoldable pub registers_of : State → Registers
+registers_of s =
+    let p = s.hardware.processor in
+    record {
+      general = p.registers.general;
+      kernel_sp = p.registers.kernel_sp;
+      user_sp = p.registers.user_sp;
+      pc = p.registers.pc;
+      status = status_word p.status;
+      turns = s.turns;
+      mark = mark_of p;
+    }
+
+-- a refused command answers its fault, and changes nothing
+abbrev pub IsRefused : {A : Type 0} → Fault → State → Answer A → State → Type 0
+IsRefused fault s answer s' = (answer ≡ answers.Refused fault) × (s' ≡ s)
+
+-- an answer and a next state that nothing leaves open
+abbrev pub IsDone : {A : Type 0} → Answer A → State → Answer A → State → Type 0
+IsDone done after answer s' = (answer ≡ done) × (s' ≡ after)
+
+-- EXAMINE changes nothing. The list of several words may find no memory.
+abbrev pub Examines : {A : Type 0} → ℕ → ℕ → State → Answer A → State → Type 0
+Examines address n s answer s' = IsDone (shown address n s) s answer s' ⊎ ((1 < n) × IsRefused NoMemory s answer s')
+
+-- STEP makes a run of n turns, and answers its reason, how many turns were made, and PC
+abbrev pub Steps : {A : Type 0} → ℕ → State → Answer A → State → Type 0
+Steps n s answer s' =
+    (k : ℕ) × (reason : StopReason) × IsRun n s k reason s' × (answer ≡ answers.Stop reason k s'.hardware.processor.registers.pc)
+
+-- What a command does to a machine: the answer, and the state after it.
+abbrev pub Acts : {A : Type 0} → State → Command A → Answer A → State → Type 0
+Acts s (commands.Examine address n) answer s' =
+    MatchOption (examine_fault address n s) (Examines address n s answer s') (λ fault. IsRefused fault s answer s')
+Acts s (commands.Deposit address words) answer s' =
+    MatchOption (deposit_fault address words s) (IsDone answers.Done (deposited address words s) answer s') (λ fault. IsRefused fault s answer s')
+Acts s (commands.Start address) answer s' =
+    MatchOption (start_fault address) (IsDone answers.Done (start_of address s) answer s') (λ fault. IsRefused fault s answer s')
+Acts s (commands.Step n) answer s' =
+    MatchOption (step_fault n s) (Steps n s answer s') (λ fault. IsRefused fault s answer s')
+Acts s commands.Regs answer s' = IsDone (answers.Registers (registers_of s)) s answer s'

@@ -20,7 +20,7 @@ stop_at n k Ran = if k == n then Some reasons.Turns else None
 
 -- Why a run of n turns from s stops when k are made, if it does: the last of them halted or trapped, or n are made.
 unfoldable pub stop_of : ℕ → ℕ → State → Option StopReason
-stop_of n zero s = if 0 == n then Some reasons.Turns else None
+stop_of n zero s = stop_at n zero Ran
 stop_of n (suc k) s = stop_at n (suc k) (turn_of (after_turns k s)).1
 
 -- a run of n turns from s makes k of them, for which it has a reason, and comes to s'; for no fewer turns it had one

@@ -1,0 +1,74 @@
+// What a command answers.
+use crate::fault::Fault;
+use crate::words::Words;
+use std::alloc::{Allocator, Global};
+
+/// Why a run stopped.
+#[derive(Clone, Copy, Debug, PartialEq, Eq)]
+pub enum StopReason {
+    /// A HALT in kernel mode.
+    Halt,
+    /// All the turns that were asked for are made.
+    Turns,
+    /// A growth that the next turn needs was refused.
+    Memory,
+    /// A trap that isn't served.
+    Trap,
+}
+
+/// What the processor does between turns.
+#[derive(Clone, Copy, Debug, PartialEq, Eq)]
+pub enum Mark {
+    /// The next turn runs an instruction.
+    Ready,
+    /// A WAIT was run, and no service has ended it.
+    Waiting,
+    /// A HALT was run, and no turn since.
+    Halted,
+}
+
+/// The processor's registers, status word and turn count.
+#[derive(Clone, Copy, Debug, PartialEq, Eq)]
+pub struct Registers {
+    /// R0 to R5.
+    pub general: [u16; 6],
+    /// The stack pointer of kernel mode.
+    pub kernel_sp: u16,
+    /// The stack pointer of user mode.
+    pub user_sp: u16,
+    /// R7, the program counter.
+    pub pc: u16,
+    /// The processor status word.
+    pub status: u16,
+    /// The turns since the machine was made.
+    pub turns: u64,
+    /// What the processor does between turns.
+    pub mark: Mark,
+}
+
+/// What a command answers.
+#[derive(Debug, Drop)]
+pub enum Answer<A: Allocator = Global> {
+    /// The command is done, and has nothing to show.
+    Done,
+    /// The word at a bus address of 18 bits.
+    Word {
+        address: u32,
+        word: u16,
+    },
+    /// The words at an address and at the even addresses after it.
+    Words {
+        address: u32,
+        words: Words<A>,
+    },
+    /// A run has stopped after so many turns, with the program counter here.
+    Stop {
+        reason: StopReason,
+        turns: u32,
+        pc: u16,
+    },
+    /// The registers.
+    Registers(Registers),
+    /// The command was refused, and changed nothing.
+    Refused(Fault),
+}

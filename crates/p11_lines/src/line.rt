@@ -1,0 +1,18 @@
+// What a line of a script asks for.
+use crate::words::Words;
+use std::alloc::{Allocator, Global};
+
+/// A line of a script. Addresses and words are octal in the text, counts and turns decimal.
+#[derive(Debug, Drop)]
+pub enum Line<A: Allocator = Global> {
+    /// Show so many words from a bus address of 18 bits on.
+    Examine { address: u32, count: u32 },
+    /// Store the words from a bus address of 18 bits on.
+    Deposit { address: u32, words: Words<A> },
+    /// Reset the bus and let the processor begin at an address of 16 bits.
+    Start { address: u16 },
+    /// Run so many turns.
+    Step { turns: u32 },
+    /// Show the registers.
+    Regs,
+}

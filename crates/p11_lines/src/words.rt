@@ -1,0 +1,43 @@
+// Lists of words that clauses compare.
+ghost use Rattle.std.specs.Prelude.{◌≡◌};
+
+use std::alloc::{Allocator, Global};
+use std::marker::Model;
+
+/// A list of 16-bit words. Clauses see it as a list of numbers.
+#[derive(Debug, Drop)]
+pub struct Words<A: Allocator = Global> {
+    items: Vec<u16, A>,
+}
+
+impl<A: Allocator> Model for Words<A> {
+    ghost use Rattle.std.specs.Prelude.{List, ℕ};
+
+    ghost Value = { List ℕ };
+
+    ghost view = { λ w. w.items.items };
+}
+
+impl<A: Allocator> Words<A> {
+    /// The list of what the `Vec` holds, with no growth.
+    pub fn from_vec(items: Vec<u16, A>) -> Self
+        ensures { result ≡ items.items }
+    {
+        Words { items }
+    }
+
+    /// The words.
+    pub fn as_slice(&self) -> &[u16]
+        ensures { result.now ≡ self.now }
+    {
+        self.items.as_slice()
+    }
+
+    /// The `Vec` that holds the words, with no growth.
+    pub fn into_vec(self) -> Vec<u16, A>
+        ensures { result.items ≡ self }
+    {
+        let Words { items } = self;
+        items
+    }
+}

@@ -1,0 +1,3 @@
+pub mod RangeLemmas
+pub mod RunLemmas
+pub mod PlayLemmas

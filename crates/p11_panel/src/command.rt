@@ -1,0 +1,17 @@
+use p11_lines::Words;
+use std::alloc::{Allocator, Global};
+
+/// A command of the operator's. Bus addresses have 18 bits, and words 16.
+#[derive(Debug, Drop)]
+pub enum Command<A: Allocator = Global> {
+    /// Show so many words from an even bus address on: 1 to 512.
+    Examine { address: u32, count: u32 },
+    /// Write words from an even bus address on: 1 to 64, and one alone where the range touches the I/O page.
+    Deposit { address: u32, words: Words<A> },
+    /// Reset the bus and set PC to an even address.
+    Start { address: u16 },
+    /// Run so many turns: 1 to 100,000,000.
+    Step { turns: u32 },
+    /// Show the processor's registers.
+    Regs,
+}

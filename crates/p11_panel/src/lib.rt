@@ -1,0 +1,16 @@
+//! The operator's console of a PDP-11/40: commands and their answers, lists of commands, and sessions over scripts.
+#![tactic(auto)]
+
+mod command;
+mod config;
+mod panel;
+mod playing;
+mod range;
+mod refusal;
+mod run;
+
+pub use command::Command;
+pub use config::Config;
+pub use p11_lines::{Answer, Fault, Line, Mark, NoMemory, Registers, StopReason, Words};
+pub use panel::Panel;
+pub use playing::play;

@@ -1,0 +1,153 @@
+ghost use Rattle.std.specs.Prelude.{◌≡◌, ◌<◌, true, IfOk};
+ghost use Rattle.p11_cpu.specs.Operator.{new_machine};
+ghost use Rattle.p11_panel.specs.Commands.{Acts, Examines, registers_of, mark_of};
+ghost use Rattle.p11_panel.specs.Ranges.{all_answer};
+
+use crate::command::Command;
+use crate::config::Config;
+use crate::refusal::start_refusal;
+use crate::run::run;
+use p11_cpu::Machine;
+use p11_lines::{Answer, Fault, Mark, NoMemory, Registers, Words};
+use std::alloc::{Allocator, Global};
+use std::marker::Model;
+
+/// A machine under an operator. A contract sees the machine's whole state.
+#[derive(Drop)]
+pub struct Panel<A: Allocator = Global> {
+    pub(crate) machine: Machine<A>,
+}
+
+impl<A: Allocator> Model for Panel<A> {
+    ghost use Rattle.p11_cpu.specs.State.{State};
+
+    ghost Value = { State };
+
+    ghost view = { λ p. p.machine };
+}
+
+impl<A: Allocator> Panel<A> {
+    /// A new machine of these sizes: zeros everywhere. The only error is want of memory.
+    pub fn new(alloc: A, config: Config) -> Result<Self, NoMemory>
+        ensures { IfOk result (λ p. p ≡ new_machine config.kwords) }
+    {
+        let machine = Machine::new(alloc, config.kwords(), config.lines())?;
+        Ok(Panel { machine })
+    }
+
+    /// What the processor shows of itself.
+    #[tactic(auto, unfolding(crate::specs::Commands::registers_of))]
+    fn registers(&self) -> Registers
+        ensures { result ≡ registers_of self.now }
+    {
+        let registers = self.machine.regs();
+        let general = registers.general;
+        Registers {
+            general,
+            kernel_sp: registers.kernel_sp,
+            user_sp: registers.user_sp,
+            pc: registers.pc,
+            status: self.machine.status().word(),
+            turns: self.machine.turns(),
+            mark: self.mark(),
+        }
+    }
+
+    /// What the processor does between turns.
+    fn mark(&self) -> Mark
+        ensures { result ≡ mark_of self.now.hardware.processor }
+    {
+        if self.machine.is_halted() {
+            Mark::Halted
+        } else if self.machine.is_waiting() {
+            Mark::Waiting
+        } else {
+            Mark::Ready
+        }
+    }
+}
+
+impl<A: Allocator + Copy> Panel<A> {
+    /// Does one command, and answers it.
+    ///
+    /// A refused command answers its first fault and changes nothing. An `Examine` of several words may find no memory
+    /// for its answer, and answers `NoMemory` then; no other command does.
+    pub fn act(&mut self, alloc: A, command: &Command<A>) -> Answer<A>
+        ensures { Acts self.old command.now result self.new }
+    {
+        match command {
+            Command::Examine { address, count } => self.examine(alloc, *address, *count),
+            Command::Deposit { address, words } => self.deposit(*address, words.as_slice()),
+            Command::Start { address } => self.start(*address),
+            Command::Step { turns } => self.step(*turns),
+            Command::Regs => Answer::Registers(self.registers()),
+        }
+    }
+
+    /// EXAMINE.
+    fn examine(&self, alloc: A, address: u32, count: u32) -> Answer<A>
+        ensures { Acts self.now (Command.Examine address count) result self.now }
+    {
+        if let Some(fault) = self.examine_refusal(address, count) {
+            return Answer::Refused(fault);
+        }
+        self.show(alloc, address, count)
+    }
+
+    /// What so many words from an even address on show.
+    #[tactic(auto, using(crate::proofs::RangeLemmas::first_answers), unfolding(crate::specs::Commands::shown))]
+    fn show(&self, alloc: A, address: u32, count: u32) -> Answer<A>
+        requires some { 0 < count }
+        requires answer { all_answer address count self.now ≡ true }
+        ensures { Examines address count self.now result self.now }
+    {
+        if count == 1 {
+            let word = self.machine.examine(address);
+            return Answer::Word { address, word };
+        }
+        match self.words_at(alloc, address, count) {
+            Ok(words) => Answer::Words {
+                address,
+                words: Words::from_vec(words),
+            },
+            Err(_) => Answer::Refused(Fault::NoMemory),
+        }
+    }
+
+    /// DEPOSIT.
+    fn deposit(&mut self, address: u32, words: &[u16]) -> Answer<A>
+        ensures { Acts self.old (Command.Deposit address words.now) result self.new }
+    {
+        if let Some(fault) = self.deposit_refusal(address, words) {
+            return Answer::Refused(fault);
+        }
+        self.deposit_all(address, words);
+        Answer::Done
+    }
+
+    /// START.
+    fn start(&mut self, address: u16) -> Answer<A>
+        ensures { Acts self.old (Command.Start address) result self.new }
+    {
+        if let Some(fault) = start_refusal(address) {
+            return Answer::Refused(fault);
+        }
+        self.machine.start(address);
+        Answer::Done
+    }
+
+    /// STEP.
+    fn step(&mut self, turns: u32) -> Answer<A>
+        ensures { Acts self.old (Command.Step turns) result self.new }
+    {
+        if let Some(fault) = self.step_refusal(turns) {
+            return Answer::Refused(fault);
+        }
+        let (made, reason) = run(&mut self.machine, turns);
+        Answer::Stop {
+            reason,
+            turns: made,
+            pc: self.machine.regs().pc,
+        }
+    }
+}

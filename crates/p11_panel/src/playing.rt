@@ -1,0 +1,29 @@
+ghost use Rattle.std.specs.Prelude.{◌≡◌, IfOk};
+ghost use Rattle.p11_cpu.specs.Operator.{new_machine};
+ghost use Rattle.p11_panel.specs.Play.{Plays};
+
+use crate::command::Command;
+use crate::config::Config;
+use crate::panel::Panel;
+use p11_lines::{Answer, NoMemory};
+use std::alloc::Allocator;
+
+/// Does a list of commands, one after another, on a new machine of these sizes: the panel after the last of them, and the
+/// list of their answers, one for each.
+///
+/// The only error is want of memory, for the machine or for the list of answers; nothing is handed out then.
+pub fn play<A: Allocator + Copy>(
+    alloc: A,
+    config: Config,
+    commands: &[Command<A>],
+) -> Result<(Panel<A>, Vec<Answer<A>, A>), NoMemory>
+    ensures { IfOk result (λ r. Plays (new_machine config.kwords) commands.now r.1.items r.0) }
+{
+    let mut panel = Panel::new(alloc, config)?;
+    let mut answers = Vec::new(alloc);
+    for command in commands {
+        let answer = panel.act(alloc, command);
+        answers.push(answer)?;
+    }
+    Ok((panel, answers))
+}
