@@ -1,1 +1,6 @@
+pub mod AnswerText
 pub mod FaultTable
+pub mod Grammar
+pub mod LineText
+pub mod Reading
+pub mod Written

@@ -4,9 +4,15 @@
 mod answer;
 mod fault;
 mod line;
+mod output;
+mod parse;
+mod text;
 mod words;
 
 pub use answer::{Answer, Mark, Registers, StopReason};
 pub use fault::{Fault, NoMemory};
 pub use line::Line;
+pub use output::{Broken, put_answer};
+pub use parse::parse_line;
+pub use text::{line_of, text_reads_back};
 pub use words::Words;

@@ -1,3 +1,6 @@
 pub mod RangeLemmas
 pub mod RunLemmas
 pub mod PlayLemmas
+pub mod BufferLemmas
+pub mod ScriptLemmas
+pub mod SessionLemmas

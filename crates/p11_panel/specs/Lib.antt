@@ -3,3 +3,7 @@ pub mod Runs
 pub mod Ranges
 pub mod Commands
 pub mod Play
+pub mod Script
+pub mod Buffer
+pub mod Session
+pub mod Standing

@@ -3,14 +3,17 @@
 
 mod command;
 mod config;
+mod line_buffer;
 mod panel;
 mod playing;
 mod range;
 mod refusal;
 mod run;
+mod script;
 
 pub use command::Command;
 pub use config::Config;
-pub use p11_lines::{Answer, Fault, Line, Mark, NoMemory, Registers, StopReason, Words};
+pub use p11_lines::{Answer, Fault, Line, Mark, NoMemory, Registers, StopReason, Words, line_of, parse_line};
 pub use panel::Panel;
 pub use playing::play;
+pub use script::{SessionFault, session};

@@ -1,0 +1,6 @@
+pub mod Lists
+pub mod Numbers
+pub mod Numerals
+pub mod Parts
+pub mod Pieces
+pub mod ReadBack

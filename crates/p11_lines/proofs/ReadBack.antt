@@ -1,0 +1,118 @@
+-- The text of a line reads as the line.
+use Rattle.std.proofs.Common.{◌≡◌, ℕ, zero, suc, ◌+◌, ◌<◌, ◌≤◌, Bool, true, false, not, nat_le, List, [], ◌∷◌, ◌++◌, length, map, refl, sym, ap, subst, ◌∙◌, arith, append_assoc, append-nil, Option, Some, None, All, codes}
+use Rattle.std.specs.List.{flat_map, list_all}
+use Rattle.std.specs.Fmt.{decimal}
+use Rattle.std.proofs.lemmas.Bool.{not-true}
+use Rattle.std.proofs.lemmas.Bool.Decides.{nat_tests}
+use Rattle.std.proofs.lemmas.List.Sums.{AllPass-from_list_all}
+use Rattle.p11_lines.specs.declared.line.Line.{Line}
+use Rattle.p11_lines.specs.declared.line.Line.TheVariants.{Examine, Deposit, Start, Step, Regs}
+use Rattle.p11_lines.specs.Grammar.{is_blank, words_of, address_from, word_from, all_words_from, examine_from, deposit_from, start_from, step_from, regs_from, line_from_words, line_from}
+use Rattle.p11_lines.specs.LineText.{octal, line_text, FitsCount, FitsGrammar}
+use Rattle.p11_lines.proofs.Parts.{words_of-word, words_of-last}
+use Rattle.p11_lines.proofs.Numbers.{Writes, number_from-Writes, graphs_from-AllDigits, octal-Writes, decimal-Writes, count_from-decimal}
+
+-- a word of digits
+octal-graphs : (number : ℕ) → number ≤ 262143 → All (λ byte. is_blank byte ≡ false) (octal number)
+octal-graphs number small = graphs_from-AllDigits 8 (octal number) (omega arith) (octal-Writes number small).all
+
+decimal-graphs : (number : ℕ) → number ≤ 999999999 → All (λ byte. is_blank byte ≡ false) (decimal number)
+decimal-graphs number small = graphs_from-AllDigits 10 (decimal number) (omega arith) (decimal-Writes number small).all
+
+-- a number in octal reads as itself
+address_from-octal : (address : ℕ) → address ≤ 262143 → address_from (octal address) ≡ Some address
+address_from-octal address small = number_from-Writes 8 6 262143 address (octal address) (octal-Writes address small) small
+
+word_from-octal : (word : ℕ) → word ≤ 65535 → word_from (octal word) ≡ Some word
+word_from-octal word small = number_from-Writes 8 6 65535 word (octal word) (octal-Writes word (omega arith)) small
+
+all_words_from-octal : (words : List ℕ) → All (λ word. word ≤ 65535) words → all_words_from (map octal words) ≡ Some words
+unfolding all_words_from
+all_words_from-octal [] small = refl
+all_words_from-octal (word ∷ words) small =
+    rw (word_from-octal word (small 0 0 (omega arith)), all_words_from-octal words (λ k d below. small (suc k) d (omega arith))) refl
+
+-- the last word is a number in octal
+words_of-octal : (number : ℕ) → number ≤ 262143 → words_of (octal number) ≡ octal number ∷ []
+words_of-octal number small = words_of-last (octal number) (octal-graphs number small) (octal-Writes number small).some
+
+words_of-decimal : (number : ℕ) → number ≤ 999999999 → words_of (decimal number) ≡ decimal number ∷ []
+words_of-decimal number small = words_of-last (decimal number) (decimal-graphs number small) (decimal-Writes number small).some
+
+-- a number in octal, and a blank
+words_of-octal_more : (number : ℕ) (rest : List ℕ) → number ≤ 262143 → words_of (octal number ++ 32 ∷ rest) ≡ octal number ∷ words_of rest
+words_of-octal_more number rest small = words_of-word (octal number) 32 rest (octal-graphs number small) (octal-Writes number small).some refl
+
+-- a number in octal, and more of them
+words_of-octals : (number : ℕ) (words : List ℕ) → number ≤ 262143 → All (λ word. word ≤ 65535) words
+    → words_of (octal number ++ flat_map (λ word. 32 ∷ octal word) words) ≡ octal number ∷ map octal words
+words_of-octals number [] small all = ap words_of (append-nil (octal number)) ∙ words_of-octal number small
+words_of-octals number (word ∷ words) small all =
+    let here : word ≤ 65535 = all 0 0 (omega arith) in
+    words_of-octal_more number (octal word ++ flat_map (λ word. 32 ∷ octal word) words) small
+    ∙ ap (λ (ws : List (List ℕ)). octal number ∷ ws) (words_of-octals word words (omega arith) (λ k d below. all (suc k) d (omega arith)))
+
+-- a name that is spelled out has no blank, which a test tells
+graphs_from-test : (word : List ℕ) → list_all (λ byte. not (is_blank byte)) word ≡ true → All (λ byte. is_blank byte ≡ false) word
+graphs_from-test word test k d below = not-true _ (AllPass-from_list_all (λ byte. not (is_blank byte)) word test k d below)
+
+-- the words of each line's text
+words_of-examine : (address count : ℕ) → address ≤ 262143 → FitsCount count → words_of (codes "examine " ++ octal address ++ 32 ∷ decimal count) ≡ codes "examine" ∷ octal address ∷ decimal count ∷ []
+words_of-examine address count small fits =
+    words_of-word (codes "examine") 32 (octal address ++ 32 ∷ decimal count) (graphs_from-test (codes "examine") refl) (omega arith) refl
+    ∙ ap (λ (ws : List (List ℕ)). codes "examine" ∷ ws) (words_of-octal_more address (decimal count) small ∙ ap (λ (ws : List (List ℕ)). octal address ∷ ws) (words_of-decimal count fits.1))
+
+words_of-deposit : (address : ℕ) (words : List ℕ) → address ≤ 262143 → All (λ word. word ≤ 65535) words → words_of (codes "deposit " ++ octal address ++ flat_map (λ word. 32 ∷ octal word) words) ≡ codes "deposit" ∷ octal address ∷ map octal words
+words_of-deposit address words small all =
+    words_of-word (codes "deposit") 32 (octal address ++ flat_map (λ word. 32 ∷ octal word) words) (graphs_from-test (codes "deposit") refl) (omega arith) refl
+    ∙ ap (λ (ws : List (List ℕ)). codes "deposit" ∷ ws) (words_of-octals address words small all)
+
+words_of-start : (address : ℕ) → address ≤ 65535 → words_of (codes "start " ++ octal address) ≡ codes "start" ∷ octal address ∷ []
+words_of-start address small =
+    words_of-word (codes "start") 32 (octal address) (graphs_from-test (codes "start") refl) (omega arith) refl
+    ∙ ap (λ (ws : List (List ℕ)). codes "start" ∷ ws) (words_of-octal address (omega arith))
+
+words_of-step : (turns : ℕ) → FitsCount turns → words_of (codes "step " ++ decimal turns) ≡ codes "step" ∷ decimal turns ∷ []
+words_of-step turns fits =
+    words_of-word (codes "step") 32 (decimal turns) (graphs_from-test (codes "step") refl) (omega arith) refl
+    ∙ ap (λ (ws : List (List ℕ)). codes "step" ∷ ws) (words_of-decimal turns fits.1)
+
+words_of-regs : words_of (codes "regs") ≡ codes "regs" ∷ []
+unfolding words_of
+words_of-regs = refl
+
+-- the line that the words are
+line_from-words : {A : Type 0} (bytes : List ℕ) (words : List (List ℕ)) (line : Line A) → length bytes ≤ 4096 → words_of bytes ≡ words → line_from_words words ≡ Some line → line_from bytes ≡ Some line
+unfolding line_from
+line_from-words bytes words line short words_are line_is =
+    let within : nat_le (length bytes) 4096 ≡ true = grind (arith, nat_tests) in
+    rw (within, words_are) line_is
+
+line_from_words-examine : {A : Type 0} (address count : ℕ) → address ≤ 262143 → FitsCount count → line_from_words {A = A} (codes "examine" ∷ octal address ∷ decimal count ∷ []) ≡ Some (Examine address count)
+unfolding line_from_words examine_from
+line_from_words-examine address count small fits = rw (address_from-octal address small, count_from-decimal count fits) refl
+
+line_from_words-deposit : {A : Type 0} (address word : ℕ) (words : List ℕ) → address ≤ 262143 → All (λ word. word ≤ 65535) (word ∷ words) → line_from_words {A = A} (codes "deposit" ∷ octal address ∷ map octal (word ∷ words)) ≡ Some (Deposit address (word ∷ words))
+unfolding line_from_words deposit_from
+line_from_words-deposit address word words small all = rw (address_from-octal address small, all_words_from-octal (word ∷ words) all) refl
+
+line_from_words-start : {A : Type 0} (address : ℕ) → address ≤ 65535 → line_from_words {A = A} (codes "start" ∷ octal address ∷ []) ≡ Some (Start address)
+unfolding line_from_words start_from
+line_from_words-start address small = rw (word_from-octal address small) refl
+
+line_from_words-step : {A : Type 0} (turns : ℕ) → FitsCount turns → line_from_words {A = A} (codes "step" ∷ decimal turns ∷ []) ≡ Some (Step turns)
+unfolding line_from_words step_from
+line_from_words-step turns fits = rw (count_from-decimal turns fits) refl
+
+line_from_words-regs : {A : Type 0} → line_from_words {A = A} (codes "regs" ∷ []) ≡ Some Regs
+unfolding line_from_words regs_from
+line_from_words-regs = refl
+
+pub line_from-line_text : {A : Type 0} (line : Line A) → FitsGrammar line → length (line_text line) ≤ 4096 → line_from (line_text line) ≡ Some line
+unfolding line_text FitsGrammar
+line_from-line_text (Examine address count) fits short = line_from-words _ _ _ short (words_of-examine address count fits.0 fits.1) (line_from_words-examine address count fits.0 fits.1)
+line_from-line_text (Deposit address []) fits short = absurd (omega (arith, fits.1))
+line_from-line_text (Deposit address (word ∷ words)) fits short = line_from-words _ _ _ short (words_of-deposit address (word ∷ words) fits.0 fits.2) (line_from_words-deposit address word words fits.0 fits.2)
+line_from-line_text (Start address) fits short = line_from-words _ _ _ short (words_of-start address fits) (line_from_words-start address fits)
+line_from-line_text (Step turns) fits short = line_from-words _ _ _ short (words_of-step turns fits) (line_from_words-step turns fits)
+line_from-line_text Regs fits short = line_from-words _ _ _ short words_of-regs line_from_words-regs

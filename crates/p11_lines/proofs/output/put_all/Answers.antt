@@ -1,0 +1,16 @@
+use Rattle.std.proofs.Common.{drop}
+use Rattle.std.specs.List.{flat_map}
+use Rattle.p11_lines.proofs.Pieces.{Wrote-piece, AppendsFront-piece, OnErr-always, flat_map_drop}
+use Rattle.p11_lines.proofs.output.put_all.Goals as goal
+
+pub returns-in_err-put-clause-err : goal.returns-in_err-put-clause-err
+returns-in_err-put-clause-err g c =
+    OnErr-always c.from_residual.result (AppendsFront-piece (g.W.Write.contents c.args.writer.now) (g.W.Write.contents c.loop-piece.writer) (g.W.Write.contents c.put.new.writer)
+    (flat_map (λ piece. piece.now) c.args.pieces.now) (flat_map (λ piece. piece.now) (drop c.loop-piece.piece-index c.args.pieces.now)) _ _
+    c.loop-piece.invariant (flat_map_drop (λ piece. piece.now) c.args.pieces.now c.loop-piece.piece-index _ c.loop-piece-test.true) c.in_err-put.ensures.err)
+
+pub loop-piece-preserved : goal.loop-piece-preserved
+loop-piece-preserved g c =
+    Wrote-piece (g.W.Write.contents c.args.writer.now) (g.W.Write.contents c.loop-piece.writer) (g.W.Write.contents c.put.new.writer)
+    (flat_map (λ piece. piece.now) c.args.pieces.now) (flat_map (λ piece. piece.now) (drop c.loop-piece.piece-index c.args.pieces.now)) _ _
+    c.loop-piece.invariant (flat_map_drop (λ piece. piece.now) c.args.pieces.now c.loop-piece.piece-index _ c.loop-piece-test.true) c.in_ok-put.ensures.ok

@@ -1,0 +1,74 @@
+-- The text of each answer. LF, which is 10, ends each line of it.
+use Rattle.std.specs.Prelude.{ℕ, ◌+◌, ◌/◌, ◌%◌, List, [], ◌∷◌, ◌++◌, codes}
+use Rattle.std.specs.List.{flat_map}
+use Rattle.std.specs.Fmt.{decimal}
+use Rattle.p11_lines.specs.declared.answer.Answer.{Answer}
+use Rattle.p11_lines.specs.declared.answer.Answer.TheVariants as answer
+use Rattle.p11_lines.specs.declared.answer.Mark.{Mark}
+use Rattle.p11_lines.specs.declared.answer.Mark.TheVariants.{Ready, Waiting, Halted}
+use Rattle.p11_lines.specs.declared.answer.Registers.{Registers}
+use Rattle.p11_lines.specs.declared.answer.StopReason.{StopReason}
+use Rattle.p11_lines.specs.declared.answer.StopReason.TheVariants.{Halt, Turns, Memory, Trap}
+use Rattle.p11_lines.specs.declared.fault.Fault.{Fault}
+use Rattle.p11_lines.specs.FaultTable.{number_of_fault, name_of_fault}
+
+-- six octal digits: the low 18 bits of a number, the highest digit first
+unfoldable pub six_octals : ℕ → List ℕ
+six_octals number =
+    (48 + number / 32768 % 8) ∷ (48 + number / 4096 % 8) ∷ (48 + number / 512 % 8)
+    ∷ (48 + number / 64 % 8) ∷ (48 + number / 8 % 8) ∷ (48 + number % 8) ∷ []
+
+-- `EXAM o o`: the address, and the word there
+abbrev pub exam_text : ℕ → ℕ → List ℕ
+exam_text address word = codes "EXAM " ++ six_octals address ++ codes " " ++ six_octals word ++ codes "\n"
+
+-- a line for each word, at an address and the even addresses after it
+unfoldable pub exam_texts : ℕ → List ℕ → List ℕ
+exam_texts address [] = []
+exam_texts address (word ∷ words) = exam_text address word ++ exam_texts (address + 2) words
+
+abbrev pub reason_text : StopReason → List ℕ
+reason_text Halt = codes "halt"
+reason_text Turns = codes "turns"
+reason_text Memory = codes "memory"
+reason_text Trap = codes "trap"
+
+-- `STOP r d o`: why, after how many turns, and where the program counter is
+abbrev pub stop_text : StopReason → ℕ → ℕ → List ℕ
+stop_text reason turns pc = codes "STOP " ++ reason_text reason ++ codes " " ++ decimal turns ++ codes " " ++ six_octals pc ++ codes "\n"
+
+abbrev pub mark_text : Mark → List ℕ
+mark_text Ready = codes "ready"
+mark_text Waiting = codes "waiting"
+mark_text Halted = codes "halted"
+
+-- ` o` for each word
+abbrev pub spaced_text : List ℕ → List ℕ
+spaced_text words = flat_map (λ word. codes " " ++ six_octals word) words
+
+-- `REGS o o o o o o`, R0 to R5
+abbrev pub general_text : Registers → List ℕ
+general_text r = codes "REGS" ++ spaced_text r.general ++ codes "\n"
+
+-- `SP o o PC o PS o`: the stack pointers of kernel and user mode, the program counter and the status word
+abbrev pub pointers_text : Registers → List ℕ
+pointers_text r = codes "SP " ++ six_octals r.kernel_sp ++ codes " " ++ six_octals r.user_sp ++ codes " PC " ++ six_octals r.pc ++ codes " PS " ++ six_octals r.status ++ codes "\n"
+
+-- `TURN d s`: the turns since the machine was made, and what the processor does
+abbrev pub turn_text : Registers → List ℕ
+turn_text r = codes "TURN " ++ decimal r.turns ++ codes " " ++ mark_text r.mark ++ codes "\n"
+
+abbrev pub registers_text : Registers → List ℕ
+registers_text r = general_text r ++ pointers_text r ++ turn_text r
+
+-- `? d name`: the number and the name of the fault
+abbrev pub fault_text : Fault → List ℕ
+fault_text fault = codes "? " ++ decimal (number_of_fault fault) ++ codes " " ++ name_of_fault fault ++ codes "\n"
+
+unfoldable pub text_of : {A : Type 0} → Answer A → List ℕ
+text_of answer.Done = codes "OK\n"
+text_of (answer.Word address word) = exam_text address word
+text_of (answer.Words address words) = exam_texts address words
+text_of (answer.Stop reason turns pc) = stop_text reason turns pc
+text_of (answer.Registers r) = registers_text r
+text_of (answer.Refused fault) = fault_text fault

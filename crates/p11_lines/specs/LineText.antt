@@ -1,0 +1,34 @@
+-- The text of a line: one space between words, and numbers without leading zeros.
+use Rattle.std.specs.Prelude.{ℕ, ◌≡◌, ◌<◌, ◌≤◌, false, List, [], ◌∷◌, ◌++◌, length, All, Some, codes}
+use Rattle.std.specs.List.{flat_map}
+use Rattle.std.specs.Fmt.{digits, decimal}
+use Rattle.p11_lines.specs.declared.line.Line.{Line}
+use Rattle.p11_lines.specs.declared.line.Line.TheVariants.{Examine, Deposit, Start, Step, Regs}
+use Rattle.p11_lines.specs.Grammar.{line_from}
+
+-- a number in octal
+abbrev pub octal : ℕ → List ℕ
+octal number = digits 8 false number
+
+unfoldable pub line_text : {A : Type 0} → Line A → List ℕ
+line_text (Examine address count) = codes "examine " ++ octal address ++ 32 ∷ decimal count
+line_text (Deposit address words) = codes "deposit " ++ octal address ++ flat_map (λ word. 32 ∷ octal word) words
+line_text (Start address) = codes "start " ++ octal address
+line_text (Step turns) = codes "step " ++ decimal turns
+line_text Regs = codes "regs"
+
+-- a count that a line can show
+abbrev pub FitsCount : ℕ → Type 0
+FitsCount count = (0 < count) × (count ≤ 999999999)
+
+-- the parts of the line are numbers that a line can show
+unfoldable pub FitsGrammar : {A : Type 0} → Line A → Type 0
+FitsGrammar (Examine address count) = (address ≤ 0o777777) × FitsCount count
+FitsGrammar (Deposit address words) = (address ≤ 0o777777) × (0 < length words) × All (λ word. word ≤ 0o177777) words
+FitsGrammar (Start address) = address ≤ 0o177777
+FitsGrammar (Step turns) = FitsCount turns
+FitsGrammar Regs = Unit {0}
+
+-- the text of the line reads as the line
+abbrev pub ReadsBack : {A : Type 0} → Line A → Type 0
+ReadsBack line = FitsGrammar line → length (line_text line) ≤ 4096 → line_from (line_text line) ≡ Some line

@@ -1,0 +1,179 @@
+-- One more byte, and one more line, of a session.
+use Rattle.std.proofs.Common.{◌≡◌, ◌≤◌, ◌<◌, ◌+◌, arith, ℕ, Bool, true, false, nat_eq, nat_lt, nat_le, List, [], ◌∷◌, ◌++◌, length, take, drop, map, get_or, Option, Some, None, refl, sym, ap, subst, ◌∙◌, append_assoc, append-nil, add-zero, take-append-drop}
+use Rattle.std.proofs.lemmas.Bool.{lt-ltb, lt-leb, eq-eqb, ne_eqb}
+use Rattle.std.proofs.lemmas.List.{length-append, take_more, take_all}
+use Rattle.std.proofs.lemmas.List.Concat.{flat_map-append}
+use Rattle.std.specs.Option.{option_to_list}
+use Rattle.std.specs.Io.KnownBytes.{Appends, Consumes}
+use Rattle.std.proofs.KnownBytes.{Appends-nil, Appends-trans, Consumes-nil, Consumes-trans}
+use Rattle.p11_lines.specs.declared.answer.Answer.{Answer}
+use Rattle.p11_lines.specs.declared.answer.Answer.TheVariants as answers
+use Rattle.p11_lines.specs.declared.fault.Fault.TheVariants.{BadLine}
+use Rattle.p11_lines.specs.AnswerText.{text_of}
+use Rattle.p11_lines.specs.Grammar.{line_from}
+use Rattle.p11_lines.specs.Written.{AppendsFront}
+use Rattle.p11_cpu.specs.State.{State}
+use Rattle.p11_panel.specs.Buffer.{kept, pushed}
+use Rattle.p11_panel.specs.Script.{pieces_of, without_cr, ended_lines, script_lines}
+use Rattle.p11_panel.specs.Session.{has_answer, LineDoes, Runs, Did, Broke, texts_of}
+use Rattle.p11_panel.specs.Standing.{Stands}
+use Rattle.p11_panel.proofs.BufferLemmas.{kept_nil, kept_push}
+use Rattle.p11_panel.proofs.ScriptLemmas.{lines_at_lf, last_at_lf, lines_at_other, last_at_other, lines_front}
+
+-- a line that is too long
+pub long_line : (A : Type 0) (line : List ℕ) (s : State) → 4096 < length line → LineDoes {A = A} line s (Some (answers.Refused BadLine)) s
+unfolding LineDoes has_answer line_from
+long_line A line s lt = rw (lt-ltb _ _ lt, lt-leb _ _ lt) (refl, refl)
+
+-- one text after another
+front_after : (a b c : Option (List ℕ)) (first second : List ℕ) → Appends a b first → AppendsFront b c second → AppendsFront a c (first ++ second)
+front_after a b c first second done now =
+    record {
+      front = first ++ now.front;
+      back = now.back;
+      written = Appends-trans a b c first now.front done now.written;
+      split = ap (λ (t : List ℕ). first ++ t) now.split ∙ sym (append_assoc first now.front now.back);
+    }
+
+module _ {A : Type 0} where
+  runs_push : (lines : List (List ℕ)) (s : State) (answers : List (Answer A)) (s' : State) (line : List ℕ) (answer : Option (Answer A)) (s'' : State)
+      → Runs A lines s answers s' → LineDoes line s' answer s'' → Runs A (lines ++ line ∷ []) s (answers ++ option_to_list answer) s''
+  unfolding Runs
+  runs_push [] s answers s' line answer s'' r d =
+      (answer, s'', [], subst (λ (x : State). LineDoes line x answer s'') r.1 d, (refl, refl), ap (λ (x : List (Answer A)). x ++ option_to_list answer) r.0 ∙ sym (append-nil (option_to_list answer)))
+  runs_push (l ∷ lines) s answers s' line answer s'' r d =
+      (r.0, r.1, r.2 ++ option_to_list answer, r.3, runs_push lines r.1 r.2 s' line answer s'' r.4 d,
+       ap (λ (x : List (Answer A)). x ++ option_to_list answer) r.5 ∙ append_assoc (option_to_list r.0) r.2 (option_to_list answer))
+
+  -- one line more is done
+  did_push : (lines : List (List ℕ)) (s : State) (a : Option (List ℕ)) (s' : State) (b : Option (List ℕ)) (n : ℕ) (line : List ℕ) (answer : Option (Answer A)) (s'' : State) (c : Option (List ℕ)) (k : ℕ)
+      → Did A lines s a s' b n → LineDoes line s' answer s'' → Appends b c (texts_of (option_to_list answer)) → k ≡ length (option_to_list answer) → Did A (lines ++ line ∷ []) s a s'' c (n + k)
+  did_push lines s a s' b n line answer s'' c k h d w e = record {
+    answers = h.answers ++ option_to_list answer;
+    runs = runs_push lines s h.answers s' line answer s'' h.runs d;
+    written = rw flat_map-append (Appends-trans a b c (texts_of h.answers) (texts_of (option_to_list answer)) h.written w);
+    counted = omega (arith, h.counted, length-append h.answers (option_to_list answer));
+  }
+
+  -- one line more is done, and not all of its text is written
+  broke_push : (lines more : List (List ℕ)) (s : State) (a : Option (List ℕ)) (s' : State) (b : Option (List ℕ)) (n : ℕ) (line : List ℕ) (answer : Answer A) (s'' : State) (c : Option (List ℕ))
+      → Did A lines s a s' b n → LineDoes line s' (Some answer) s'' → AppendsFront b c (text_of answer) → Broke A (lines ++ line ∷ more) s a s'' c
+  broke_push lines more s a s' b n line answer s'' c h d w = record {
+    done = lines ++ line ∷ [];
+    others = more;
+    split = sym (append_assoc lines (line ∷ []) more);
+    answers = h.answers ++ answer ∷ [];
+    runs = runs_push lines s h.answers s' line (Some answer) s'' h.runs d;
+    written = rw flat_map-append (front_after a b c (texts_of h.answers) (texts_of (answer ∷ [])) h.written (subst (λ (t : List ℕ). AppendsFront b c t) (sym (append-nil (text_of answer))) w));
+  }
+
+  -- a byte other than LF
+  pub stands_byte : (read : List ℕ) (s : State) (a : Option (List ℕ)) (s' : State) (b : Option (List ℕ)) (n : ℕ) (buffer after : Option (List ℕ)) (byte : ℕ)
+      → Stands A read s a s' b n buffer → (byte ≡ 10 → ⊥) → after ≡ pushed buffer byte → Stands A (read ++ byte ∷ []) s a s' b (n + 0) after
+  stands_byte read s a s' b n buffer after byte h ne e =
+      let other : nat_eq byte 10 ≡ false = ne_eqb byte 10 ne in
+      record {
+        did = rw (lines_at_other read byte other, add-zero) h.did;
+        buffer_is = e ∙ (ap (λ (x : Option (List ℕ)). pushed x byte) h.buffer_is ∙ (kept_push (pieces_of read).last byte ∙ ap kept (sym (last_at_other read byte other))));
+      }
+
+  -- LF
+  pub stands_line : (read : List ℕ) (s : State) (a : Option (List ℕ)) (s' : State) (b : Option (List ℕ)) (n : ℕ) (buffer after : Option (List ℕ)) (byte : ℕ) (answer : Option (Answer A)) (s'' : State) (c : Option (List ℕ)) (k : ℕ)
+      → Stands A read s a s' b n buffer → byte ≡ 10 → ((piece : List ℕ) → buffer ≡ kept piece → LineDoes (without_cr piece) s' answer s'')
+      → Appends b c (texts_of (option_to_list answer)) → k ≡ length (option_to_list answer) → after ≡ Some []
+      → Stands A (read ++ byte ∷ []) s a s'' c (n + k) after
+  stands_line read s a s' b n buffer after byte answer s'' c k h lf does w e nil =
+      let is_lf : nat_eq byte 10 ≡ true = eq-eqb byte 10 lf in
+      record {
+        did = subst (λ (x : List (List ℕ)). Did A x s a s'' c (n + k)) (sym (lines_at_lf read byte is_lf))
+            (did_push (ended_lines read) s a s' b n (without_cr (pieces_of read).last) answer s'' c k h.did (does (pieces_of read).last h.buffer_is) w e);
+        buffer_is = nil ∙ (sym kept_nil ∙ ap kept (sym (last_at_lf read byte is_lf)));
+      }
+
+  pub broke_line : (read : List ℕ) (s : State) (a : Option (List ℕ)) (s' : State) (b : Option (List ℕ)) (n : ℕ) (buffer : Option (List ℕ)) (byte : ℕ) (answer : Answer A) (s'' : State) (c : Option (List ℕ))
+      → Stands A read s a s' b n buffer → byte ≡ 10 → ((piece : List ℕ) → buffer ≡ kept piece → LineDoes (without_cr piece) s' (Some answer) s'')
+      → AppendsFront b c (text_of answer) → Broke A (ended_lines (read ++ byte ∷ [])) s a s'' c
+  broke_line read s a s' b n buffer byte answer s'' c h lf does w =
+      subst (λ (x : List (List ℕ)). Broke A x s a s'' c) (sym (lines_at_lf read byte (eq-eqb byte 10 lf)))
+        (broke_push (ended_lines read) [] s a s' b n (without_cr (pieces_of read).last) answer s'' c h.did (does (pieces_of read).last h.buffer_is) w)
+
+  -- the last line
+  pub did_last : (read : List ℕ) (s : State) (a : Option (List ℕ)) (s' : State) (b : Option (List ℕ)) (n : ℕ) (buffer : Option (List ℕ)) (answer : Option (Answer A)) (s'' : State) (c : Option (List ℕ)) (k : ℕ)
+      → Stands A read s a s' b n buffer → ((piece : List ℕ) → buffer ≡ kept piece → LineDoes piece s' answer s'')
+      → Appends b c (texts_of (option_to_list answer)) → k ≡ length (option_to_list answer) → Did A (script_lines read) s a s'' c (n + k)
+  did_last read s a s' b n buffer answer s'' c k h does w e =
+      did_push (ended_lines read) s a s' b n (pieces_of read).last answer s'' c k h.did (does (pieces_of read).last h.buffer_is) w e
+
+  pub broke_last : (read : List ℕ) (s : State) (a : Option (List ℕ)) (s' : State) (b : Option (List ℕ)) (n : ℕ) (buffer : Option (List ℕ)) (answer : Answer A) (s'' : State) (c : Option (List ℕ))
+      → Stands A read s a s' b n buffer → ((piece : List ℕ) → buffer ≡ kept piece → LineDoes piece s' (Some answer) s'')
+      → AppendsFront b c (text_of answer) → Broke A (script_lines read) s a s'' c
+  broke_last read s a s' b n buffer answer s'' c h does w =
+      broke_push (ended_lines read) [] s a s' b n (pieces_of read).last answer s'' c h.did (does (pieces_of read).last h.buffer_is) w
+
+  broke_wider : (lines others : List (List ℕ)) (s : State) (a : Option (List ℕ)) (s' : State) (b : Option (List ℕ)) → Broke A lines s a s' b → Broke A (lines ++ others) s a s' b
+  broke_wider lines others s a s' b h = record {
+    done = h.done;
+    others = h.others ++ others;
+    split = ap (λ (x : List (List ℕ)). x ++ others) h.split ∙ append_assoc h.done h.others others;
+    answers = h.answers;
+    runs = h.runs;
+    written = h.written;
+  }
+
+  -- what broke in the first bytes broke in all of them
+  pub broke_bytes : (read more : List ℕ) (s : State) (a : Option (List ℕ)) (s' : State) (b : Option (List ℕ)) → Broke A (ended_lines read) s a s' b → Broke A (ended_lines (read ++ more)) s a s' b
+  broke_bytes read more s a s' b h =
+      let front = lines_front read more in
+      subst (λ (x : List (List ℕ)). Broke A x s a s' b) (sym front.1) (broke_wider (ended_lines read) front.0 s a s' b h)
+
+  pub broke_script : (read : List ℕ) (s : State) (a : Option (List ℕ)) (s' : State) (b : Option (List ℕ)) → Broke A (ended_lines read) s a s' b → Broke A (script_lines read) s a s' b
+  broke_script read s a s' b h = broke_wider (ended_lines read) ((pieces_of read).last ∷ []) s a s' b h
+
+  -- the same bytes, and the same count
+  pub stands_is : (read same : List ℕ) (s : State) (a : Option (List ℕ)) (s' : State) (b : Option (List ℕ)) (n m : ℕ) (buffer : Option (List ℕ)) → read ≡ same → n ≡ m → Stands A read s a s' b n buffer → Stands A same s a s' b m buffer
+  stands_is read same s a s' b n m buffer e f h = subst (λ (x : List ℕ). Stands A x s a s' b m buffer) e (subst (λ (k : ℕ). Stands A read s a s' b k buffer) f h)
+
+  pub broke_is : (read same : List ℕ) (s : State) (a : Option (List ℕ)) (s' : State) (b : Option (List ℕ)) → read ≡ same → Broke A (ended_lines read) s a s' b → Broke A (ended_lines same) s a s' b
+  broke_is read same s a s' b e h = subst (λ (x : List ℕ). Broke A (ended_lines x) s a s' b) e h
+
+  -- nothing is read yet
+  pub stands_none : (s : State) (a : Option (List ℕ)) (buffer : Option (List ℕ)) → buffer ≡ Some [] → Stands A [] s a s a 0 buffer
+  unfolding Runs pieces_of
+  stands_none s a buffer e = record {
+    did = record { answers = []; runs = (refl, refl); written = Appends-nil a; counted = refl };
+    buffer_is = e ∙ sym kept_nil;
+  }
+
+-- the next byte of a chunk
+pub chunk_more : (read bytes : List ℕ) (i : ℕ) → i < length bytes → (read ++ take i bytes) ++ get_or bytes i 0 ∷ [] ≡ read ++ take (i + 1) bytes
+chunk_more read bytes i lt = append_assoc read (take i bytes) (get_or bytes i 0 ∷ []) ∙ ap (λ (t : List ℕ). read ++ t) (sym (take_more bytes i 0 lt))
+
+pub chunk_rest : (read bytes : List ℕ) (i : ℕ) → (read ++ take i bytes) ++ drop i bytes ≡ read ++ bytes
+chunk_rest read bytes i = append_assoc read (take i bytes) (drop i bytes) ∙ ap (λ (t : List ℕ). read ++ t) (take-append-drop i bytes)
+
+pub chunk_all : (read bytes : List ℕ) (i : ℕ) → length bytes ≤ i → read ++ take i bytes ≡ read ++ bytes
+chunk_all read bytes i h = ap (λ (t : List ℕ). read ++ t) (take_all i bytes h)
+
+-- a read that gave nothing
+pub consumes_zero : (a b c : Option (List ℕ)) (read chunk : List ℕ) (n : ℕ) → Consumes a b read → Consumes b c (take n chunk) → n ≡ 0 → Consumes a c read
+consumes_zero a b c read chunk n p q e =
+    let h : Consumes a c (read ++ take n chunk) = Consumes-trans a b c read (take n chunk) p q in
+    let same : read ++ take n chunk ≡ read = ap (λ (k : ℕ). read ++ take k chunk) e ∙ append-nil read in
+    subst (λ (t : List ℕ). Consumes a c t) same h
+
+-- where a session stands after some reads
+pub record Reached (A : Type 0) (old new : Option (List ℕ)) (s : State) (a : Option (List ℕ)) (s' : State) (b : Option (List ℕ)) (n : ℕ) (buffer : Option (List ℕ)) : Type 0 where
+  pub read : List ℕ
+  pub consumed : Consumes old new read
+  pub stands : Stands A read s a s' b n buffer
+
+pub reached_none : (A : Type 0) (r : Option (List ℕ)) (s : State) (a : Option (List ℕ)) (buffer : Option (List ℕ)) → buffer ≡ Some [] → Reached A r r s a s a 0 buffer
+reached_none A r s a buffer e = record { read = []; consumed = Consumes-nil r; stands = stands_none s a buffer e }
+
+pub reached_more : (A : Type 0) (old mid new : Option (List ℕ)) (s : State) (a : Option (List ℕ)) (s' : State) (b : Option (List ℕ)) (n : ℕ) (buffer : Option (List ℕ)) (bytes : List ℕ) (s'' : State) (c : Option (List ℕ)) (m : ℕ) (after : Option (List ℕ))
+    (h : Reached A old mid s a s' b n buffer) → Consumes mid new bytes → Stands A (h.read ++ bytes) s a s'' c m after → Reached A old new s a s'' c m after
+reached_more A old mid new s a s' b n buffer bytes s'' c m after h e t = record {
+  read = h.read ++ bytes;
+  consumed = Consumes-trans old mid new h.read bytes h.consumed e;
+  stands = t;
+}

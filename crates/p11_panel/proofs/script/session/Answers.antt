@@ -1,0 +1,36 @@
+use Rattle.std.proofs.Common.{◌≡◌, arith, take, ◌++◌}
+use Rattle.std.proofs.lemmas.Grind.{common_steps}
+use Rattle.std.proofs.KnownBytes.{Consumes-trans}
+use Rattle.p11_panel.proofs.SessionLemmas.{reached_none, reached_more, consumes_zero, broke_script}
+use Rattle.p11_panel.proofs.script.session.Goals as goal
+
+pub loop-turn-init : goal.loop-turn-init
+loop-turn-init g c = record {
+  few = omega arith;
+  reached = reached_none _ (g.R.Read.remaining c.args.reader.now) c.args.panel.now (g.W.Write.contents c.args.writer.now) c.new-buffer.result c.new-buffer.ensures;
+}
+
+pub returns-in_err-answered-clause-broke : goal.returns-in_err-answered-clause-broke
+returns-in_err-answered-clause-broke g c _ =
+    let r = c.loop-turn.invariant.reached in
+    (r.read,
+     consumes_zero (g.R.Read.remaining c.args.reader.now) (g.R.Read.remaining c.loop-turn.reader) (g.R.Read.remaining c.read.new.self) r.read _ _ r.consumed c.in-Ok.ensures.bytes.0 c.if-len-eq0.true,
+     c.in_err-answered.ensures.err r.read c.args.panel.now (g.W.Write.contents c.args.writer.now) c.loop-turn.answered r.stands)
+
+pub returns-in_err-answered-2-clause-broke : goal.returns-in_err-answered-2-clause-broke
+returns-in_err-answered-2-clause-broke g c _ =
+    let r = c.loop-turn.invariant.reached in
+    let bytes = take c.in-Ok.len c.read.new.buf in
+    (r.read ++ bytes,
+     Consumes-trans (g.R.Read.remaining c.args.reader.now) (g.R.Read.remaining c.loop-turn.reader) (g.R.Read.remaining c.read.new.self) r.read bytes r.consumed c.in-Ok.ensures.bytes.0,
+     broke_script _ _ _ _ _ (c.in_err-answered-2.ensures.err r.read c.args.panel.now (g.W.Write.contents c.args.writer.now) c.loop-turn.answered r.stands))
+
+pub loop-turn-preserved : goal.loop-turn-preserved
+loop-turn-preserved g c =
+    let r = c.loop-turn.invariant.reached in
+    let bytes = take c.in-Ok.len c.read.new.buf in
+    record {
+      few = grind (arith, common_steps, c.in_ok-answered-2.ensures.few);
+      reached = reached_more _ (g.R.Read.remaining c.args.reader.now) (g.R.Read.remaining c.loop-turn.reader) (g.R.Read.remaining c.read.new.self) _ _ _ _ c.loop-turn.answered _ bytes _ _ _ _ r c.in-Ok.ensures.bytes.0
+        (c.in_ok-answered-2.ensures.ok r.read c.args.panel.now (g.W.Write.contents c.args.writer.now) c.loop-turn.answered r.stands);
+    }

@@ -1,0 +1,73 @@
+-- What a session does with the lines of a script.
+use Rattle.std.specs.Prelude.{◌≡◌, ◌⊎◌, ℕ, Bool, true, nat_eq, nat_lt, not, ◌||◌, List, [], ◌∷◌, ◌++◌, length, Option, Some, None, IsSomeAnd, IsTrue, if◌then◌else◌}
+use Rattle.std.specs.Option.{option_to_list}
+use Rattle.std.specs.List.{flat_map}
+use Rattle.std.specs.Bool.{MatchBool}
+use Rattle.std.specs.Io.KnownBytes.{Appends}
+use Rattle.p11_lines.specs.declared.answer.Answer.{Answer}
+use Rattle.p11_lines.specs.declared.fault.Fault.TheVariants.{BadLine, NoMemory}
+use Rattle.p11_lines.specs.declared.line.Line.{Line}
+use Rattle.p11_lines.specs.declared.line.Line.TheVariants as lines
+use Rattle.p11_lines.specs.AnswerText.{text_of}
+use Rattle.p11_lines.specs.Grammar.{is_blank, line_from}
+use Rattle.p11_lines.specs.Reading.{holds_list}
+use Rattle.p11_lines.specs.Written.{AppendsFront}
+use Rattle.p11_cpu.specs.State.{State}
+use Rattle.p11_panel.specs.declared.command.Command.{Command}
+use Rattle.p11_panel.specs.declared.command.Command.TheVariants as commands
+use Rattle.p11_panel.specs.Commands.{Acts, IsRefused}
+
+-- a blank line, or a remark: its first byte past spaces and tabs is `#`
+unfoldable pub is_silent : List ℕ → Bool
+is_silent [] = true
+is_silent (byte ∷ bytes) = if is_blank byte then is_silent bytes else nat_eq byte 35
+
+-- a line has an answer unless it is silent, and any line of more than 4,096 bytes has one
+unfoldable pub has_answer : List ℕ → Bool
+has_answer line = nat_lt 4096 (length line) || not (is_silent line)
+
+-- the command that a line asks for
+unfoldable pub command_of : {A : Type 0} → Line A → Command A
+command_of (lines.Examine address count) = commands.Examine address count
+command_of (lines.Deposit address words) = commands.Deposit address words
+command_of (lines.Start address) = commands.Start address
+command_of (lines.Step turns) = commands.Step turns
+command_of lines.Regs = commands.Regs
+
+-- What a line with an answer does, by what the grammar makes of it: the command, or nothing where it is no line. Reading
+-- a line that holds a list may find no memory, before all else.
+abbrev pub Asks : {A : Type 0} → Option (Line A) → State → Answer A → State → Type 0
+Asks None s answer s' = IsRefused BadLine s answer s'
+Asks (Some line) s answer s' = Acts s (command_of line) answer s' ⊎ (IsTrue (holds_list line) × IsRefused NoMemory s answer s')
+
+-- what a line does: its answer, if it has one, and the state after it
+unfoldable pub LineDoes : {A : Type 0} → List ℕ → State → Option (Answer A) → State → Type 0
+LineDoes line s answer s' =
+    MatchBool (has_answer line) (IsSomeAnd answer (λ a. Asks (line_from line) s a s')) ((answer ≡ None) × (s' ≡ s))
+
+-- lines, one after another, with all their answers
+unfoldable pub Runs : (A : Type 0) → List (List ℕ) → State → List (Answer A) → State → Type 0
+Runs A [] s answers s' = (answers ≡ []) × (s' ≡ s)
+Runs A (line ∷ lines) s answers s'' =
+    (answer : Option (Answer A)) × (s' : State) × (others : List (Answer A))
+    × LineDoes line s answer s' × Runs A lines s' others s'' × (answers ≡ option_to_list answer ++ others)
+
+-- the text of answers
+abbrev pub texts_of : {A : Type 0} → List (Answer A) → List ℕ
+texts_of answers = flat_map text_of answers
+
+-- These lines are done: from s to s', with so many answers; and their text is written, from the bytes old to new.
+pub record Did (A : Type 0) (lines : List (List ℕ)) (s : State) (old : Option (List ℕ)) (s' : State) (new : Option (List ℕ)) (count : ℕ) : Type 0 where
+  pub answers : List (Answer A)
+  pub runs : Runs A lines s answers s'
+  pub written : Appends old new (texts_of answers)
+  pub counted : count ≡ length answers
+
+-- Just the first of these lines are done, and a front of their text is written.
+pub record Broke (A : Type 0) (lines : List (List ℕ)) (s : State) (old : Option (List ℕ)) (s' : State) (new : Option (List ℕ)) : Type 0 where
+  pub done : List (List ℕ)
+  pub others : List (List ℕ)
+  pub split : lines ≡ done ++ others
+  pub answers : List (Answer A)
+  pub runs : Runs A done s answers s'
+  pub written : AppendsFront old new (texts_of answers)

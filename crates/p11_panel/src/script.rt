@@ -1,0 +1,251 @@
+ghost use Rattle.std.specs.Prelude.{◌≡◌, ◌≢◌, ◌≤◌, ◌+◌, ◌++◌, ◌∷◌, [], ℕ, List, Option, Some, length, IfOk, IfErr, OnErr, IsErrOf};
+ghost use Rattle.std.specs.Io.KnownBytes.{Consumes, IsAtEnd};
+ghost use Rattle.p11_lines.specs.Grammar.{line_from};
+ghost use Rattle.p11_cpu.specs.State.{State};
+ghost use Rattle.p11_panel.specs.Buffer.{kept};
+ghost use Rattle.p11_panel.specs.Script.{without_cr, ended_lines, script_lines};
+ghost use Rattle.p11_panel.specs.Session.{is_silent, has_answer, command_of, Asks, LineDoes, Did, Broke};
+ghost use Rattle.p11_panel.specs.Standing.{Stands};
+
+use crate::command::Command;
+use crate::line_buffer::LineBuffer;
+use crate::panel::Panel;
+use p11_lines::{Answer, Broken, Fault, Line, parse_line, put_answer};
+use std::alloc::Allocator;
+use std::io::{Read, Write};
+use thiserror::Error;
+
+/// Why a session ended before its script did.
+#[derive(Clone, Copy, Debug, PartialEq, Eq, Error)]
+pub enum SessionFault {
+    #[error("read fault")]
+    Reading,
+    #[error("write fault")]
+    Writing,
+    #[error("script too long")]
+    TooLong,
+}
+
+impl From<Broken> for SessionFault {
+    ghost use Rattle.p11_panel.specs.declared.script.SessionFault.TheVariants.{Writing};
+
+    ghost from_gives = { λ _ e. e ≡ Writing };
+
+    fn from(_: Broken) -> Self {
+        SessionFault::Writing
+    }
+}
+
+const MOST_READS: u32 = 1_000_000;
+
+/// The command that a line asks for.
+#[tactic(auto, unfolding(crate::specs::Session::command_of))]
+fn command<A: Allocator>(line: Line<A>) -> Command<A>
+    ensures { result ≡ command_of line }
+{
+    match line {
+        Line::Examine { address, count } => Command::Examine { address, count },
+        Line::Deposit { address, words } => Command::Deposit { address, words },
+        Line::Start { address } => Command::Start { address },
+        Line::Step { turns } => Command::Step { turns },
+        Line::Regs => Command::Regs,
+    }
+}
+
+/// Whether a line is blank or a remark.
+#[tactic(auto, unfolding(crate::specs::Session::is_silent))]
+fn silent(line: &[u8]) -> bool
+    ensures { result ≡ is_silent line.now }
+{
+    let mut rest = line;
+    while let [first, after @ ..] = rest {
+        if *first != b' ' && *first != b'\t' {
+            return *first == b'#';
+        }
+        rest = after;
+    }
+    true
+}
+
+/// Does a line that has an answer.
+fn ask<A: Allocator + Copy>(alloc: A, panel: &mut Panel<A>, line: &[u8]) -> Answer<A>
+    ensures { Asks (line_from line.now) panel.old result panel.new }
+{
+    match parse_line(alloc, line) {
+        Ok(line) => panel.act(alloc, &command(line)),
+        Err(fault) => Answer::Refused(fault),
+    }
+}
+
+/// Does a line.
+#[tactic(auto, unfolding(crate::specs::Session::LineDoes, crate::specs::Session::has_answer))]
+fn do_line<A: Allocator + Copy>(alloc: A, panel: &mut Panel<A>, line: &[u8]) -> Option<Answer<A>>
+    ensures { LineDoes line.now panel.old result panel.new }
+{
+    if line.len() > 4096 {
+        return Some(ask(alloc, panel, line));
+    }
+    if silent(line) {
+        return None;
+    }
+    Some(ask(alloc, panel, line))
+}
+
+/// A piece without the CR at its end.
+#[tactic(auto, unfolding(crate::specs::Script::without_cr))]
+fn trimmed(piece: &[u8]) -> &[u8]
+    ensures { result.now ≡ without_cr piece.now }
+{
+    let len = piece.len();
+    if len == 0 {
+        return piece;
+    }
+    if piece[len - 1] == b'\r' {
+        return &piece[..len - 1];
+    }
+    piece
+}
+
+/// Does the line that LF has ended.
+#[tactic(auto, using(crate::proofs::BufferLemmas::kept_is))]
+fn end_line<A: Allocator + Copy>(alloc: A, panel: &mut Panel<A>, buffer: &LineBuffer) -> Option<Answer<A>>
+    ensures { (piece : List ℕ) → buffer.now ≡ kept piece → LineDoes (without_cr piece) panel.old result panel.new }
+{
+    match buffer.get() {
+        None => Some(Answer::Refused(Fault::BadLine)),
+        Some(piece) => do_line(alloc, panel, trimmed(piece)),
+    }
+}
+
+/// Does the last line, which no LF ends.
+#[tactic(auto, using(crate::proofs::BufferLemmas::kept_is))]
+fn last_line<A: Allocator + Copy>(alloc: A, panel: &mut Panel<A>, buffer: &LineBuffer) -> Option<Answer<A>>
+    ensures { (piece : List ℕ) → buffer.now ≡ kept piece → LineDoes piece panel.old result panel.new }
+{
+    match buffer.get() {
+        None => Some(Answer::Refused(Fault::BadLine)),
+        Some(piece) => do_line(alloc, panel, piece),
+    }
+}
+
+/// Takes the next byte of the script: how many lines were answered.
+fn feed_byte<A: Allocator + Copy, W: Write>(
+    alloc: A,
+    panel: &mut Panel<A>,
+    writer: &mut W,
+    buffer: &mut LineBuffer,
+    byte: u8,
+) -> Result<u32, Broken>
+    ensures ok { IfOk result (λ n. (read : List ℕ) (s : State) (start : Option (List ℕ)) (count : ℕ)
+        → Stands A read s start panel.old (W.contents writer.old) count buffer.old
+        → Stands A (read ++ byte ∷ []) s start panel.new (W.contents writer.new) (count + n) buffer.new) }
+    ensures err { OnErr result ((read : List ℕ) (s : State) (start : Option (List ℕ)) (count : ℕ)
+        → Stands A read s start panel.old (W.contents writer.old) count buffer.old
+        → Broke A (ended_lines (read ++ byte ∷ [])) s start panel.new (W.contents writer.new)) }
+    ensures one { IfOk result (λ n. n ≤ 1) }
+{
+    if byte != b'\n' {
+        buffer.push(byte);
+        return Ok(0);
+    }
+    let answer = end_line(alloc, panel, buffer);
+    buffer.clear();
+    let Some(answer) = answer else {
+        return Ok(0);
+    };
+    put_answer(writer, &answer)?;
+    Ok(1)
+}
+
+/// Takes the next bytes of the script: how many lines were answered.
+fn feed<A: Allocator + Copy, W: Write>(
+    alloc: A,
+    panel: &mut Panel<A>,
+    writer: &mut W,
+    buffer: &mut LineBuffer,
+    bytes: &[u8],
+) -> Result<u32, Broken>
+    requires { length bytes.now ≤ 4096 }
+    ensures ok { IfOk result (λ n. (read : List ℕ) (s : State) (start : Option (List ℕ)) (count : ℕ)
+        → Stands A read s start panel.old (W.contents writer.old) count buffer.old
+        → Stands A (read ++ bytes.now) s start panel.new (W.contents writer.new) (count + n) buffer.new) }
+    ensures err { OnErr result ((read : List ℕ) (s : State) (start : Option (List ℕ)) (count : ℕ)
+        → Stands A read s start panel.old (W.contents writer.old) count buffer.old
+        → Broke A (ended_lines (read ++ bytes.now)) s start panel.new (W.contents writer.new)) }
+    ensures few { IfOk result (λ n. n ≤ length bytes.now) }
+{
+    let mut answered = 0;
+    for byte in bytes {
+        answered += feed_byte(alloc, panel, writer, buffer, *byte)?;
+    }
+    Ok(answered)
+}
+
+/// Does the last line of the script: how many lines were answered.
+fn finish<A: Allocator + Copy, W: Write>(
+    alloc: A,
+    panel: &mut Panel<A>,
+    writer: &mut W,
+    buffer: &LineBuffer,
+) -> Result<u32, Broken>
+    ensures ok { IfOk result (λ n. (read : List ℕ) (s : State) (start : Option (List ℕ)) (count : ℕ)
+        → Stands A read s start panel.old (W.contents writer.old) count buffer.now
+        → Did A (script_lines read) s start panel.new (W.contents writer.new) (count + n)) }
+    ensures err { OnErr result ((read : List ℕ) (s : State) (start : Option (List ℕ)) (count : ℕ)
+        → Stands A read s start panel.old (W.contents writer.old) count buffer.now
+        → Broke A (script_lines read) s start panel.new (W.contents writer.new)) }
+    ensures one { IfOk result (λ n. n ≤ 1) }
+{
+    let Some(answer) = last_line(alloc, panel, buffer) else {
+        return Ok(0);
+    };
+    put_answer(writer, &answer)?;
+    Ok(1)
+}
+
+/// Does the lines of a script, one after another, and writes the text of each answer as soon as its command is done. It
+/// answers how many lines were answered.
+///
+/// LF ends a line, and a CR just before it is dropped; the last line may have no LF. A blank line and a line whose first
+/// byte past spaces and tabs is `#` have no answer. A refused line is answered, and the session goes on. A line may have
+/// 4,096 bytes, and a longer one is `BadLine`. Buffers are fixed tables: what takes memory are the commands.
+///
+/// # Errors
+///
+/// `Reading` where the reader failed, and `TooLong` where 1,000,000 reads of at most 4,096 bytes found no end: the lines
+/// that LF ended in what was read are done, and all their text is written. `Writing` where the writer failed or took
+/// nothing: the lines up to one are done, and a front of their text is written.
+pub fn session<A: Allocator + Copy, R: Read, W: Write>(
+    alloc: A,
+    panel: &mut Panel<A>,
+    reader: &mut R,
+    writer: &mut W,
+) -> Result<u32, SessionFault>
+    // The script was read to its end, all its lines are done, and their text is written.
+    ensures ok { IfOk result (λ m. (read : List ℕ) × Consumes (R.remaining reader.old) (R.remaining reader.new) read
+        × IsAtEnd (R.remaining reader.new)
+        × Did A (script_lines read) panel.old (W.contents writer.old) panel.new (W.contents writer.new) m) }
+    // The lines that LF ended in what was read are done, and their text is written.
+    ensures stopped { IfErr result (λ e. e ≢ SessionFault.Writing → (read : List ℕ) × (m : ℕ)
+        × Consumes (R.remaining reader.old) (R.remaining reader.new) read
+        × Did A (ended_lines read) panel.old (W.contents writer.old) panel.new (W.contents writer.new) m) }
+    // The first lines of what was read are done, and a front of their text is written.
+    ensures broke { IsErrOf result SessionFault.Writing → (read : List ℕ)
+        × Consumes (R.remaining reader.old) (R.remaining reader.new) read
+        × Broke A (script_lines read) panel.old (W.contents writer.old) panel.new (W.contents writer.new) }
+{
+    let mut buffer = LineBuffer::new();
+    let mut chunk = [0; 4096];
+    let mut answered = 0u32;
+    for _turn in 0..MOST_READS {
+        let Ok(len) = reader.read(&mut chunk) else {
+            return Err(SessionFault::Reading);
+        };
+        if len == 0 {
+            answered += finish(alloc, panel, writer, &buffer)?;
+            return Ok(answered);
+        }
+        answered += feed(alloc, panel, writer, &mut buffer, &chunk[..len])?;
+    }
+    Err(SessionFault::TooLong)
+}
