@@ -1,5 +1,5 @@
 ghost use Rattle.std.specs.Prelude.{◌≡◌, ◌<◌, ◌%◌, ◌/◌, ◌++◌};
-ghost use Rattle.p11_decode.specs.Table.{code_rows, control_rows, double_rows, exact_rows, first_fit, mode_at, named_codes, op_of, operand_at, register_at, register_rows, return_rows, single_rows, size, sized_double_rows, trap_rows};
+ghost use Rattle.p11_decode.specs.Table.{code_rows, control_rows, double_rows, first_fit, mode_at, named_codes, op_of, operand_at, operate_rows, register_at, register_rows, return_rows, single_rows, size, sized_double_rows, trap_rows};
 
 use crate::op::{Condition, Count, NamedCodes, Op};
 use crate::operand::{Mode, Operand, Register, Size};
@@ -184,41 +184,31 @@ fn decode_branch(word: u16) -> Op
         0o102400 => Op::Branch(Condition::OverflowSet, offset),
         0o103000 => Op::Branch(Condition::CarryClear, offset),
         0o103400 => Op::Branch(Condition::CarrySet, offset),
-        _ => decode_trap(word),
-    }
-}
-
-fn decode_trap(word: u16) -> Op
-    ensures { result ≡ first_fit (trap_rows ++ (code_rows ++ (return_rows ++ exact_rows))) word }
-{
-    match word & 0o177400 {
-        0o104000 => Op::Emt,
-        0o104400 => Op::Trap,
-        _ => decode_codes(word),
-    }
-}
-
-fn decode_codes(word: u16) -> Op
-    ensures { result ≡ first_fit (code_rows ++ (return_rows ++ exact_rows)) word }
-{
-    match word & 0o177760 {
-        0o000240 => Op::ClearCodes(named_codes_of(word)),
-        0o000260 => Op::SetCodes(named_codes_of(word)),
         _ => decode_return(word),
     }
 }
 
 fn decode_return(word: u16) -> Op
-    ensures { result ≡ first_fit (return_rows ++ exact_rows) word }
+    ensures { result ≡ first_fit (return_rows ++ (trap_rows ++ (operate_rows ++ code_rows))) word }
 {
     match word & 0o177770 {
         0o000200 => Op::Rts(register_of(word & 7)),
-        _ => decode_exact(word),
+        _ => decode_trap(word),
     }
 }
 
-fn decode_exact(word: u16) -> Op
-    ensures { result ≡ first_fit exact_rows word }
+fn decode_trap(word: u16) -> Op
+    ensures { result ≡ first_fit (trap_rows ++ (operate_rows ++ code_rows)) word }
+{
+    match word & 0o177400 {
+        0o104000 => Op::Emt,
+        0o104400 => Op::Trap,
+        _ => decode_operate(word),
+    }
+}
+
+fn decode_operate(word: u16) -> Op
+    ensures { result ≡ first_fit (operate_rows ++ code_rows) word }
 {
     match word {
         0o000000 => Op::Halt,
@@ -228,6 +218,16 @@ fn decode_exact(word: u16) -> Op
         0o000004 => Op::Iot,
         0o000005 => Op::Reset,
         0o000006 => Op::Rtt,
+        _ => decode_codes(word),
+    }
+}
+
+fn decode_codes(word: u16) -> Op
+    ensures { result ≡ first_fit code_rows word }
+{
+    match word & 0o177760 {
+        0o000240 => Op::ClearCodes(named_codes_of(word)),
+        0o000260 => Op::SetCodes(named_codes_of(word)),
         _ => Op::Reserved,
     }
 }

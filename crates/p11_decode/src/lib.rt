@@ -5,9 +5,13 @@
 #![tactic(auto)]
 
 mod decoding;
+mod laws;
 mod op;
 mod operand;
+#[cfg(test)]
+mod tests;
 
 pub use decoding::decode;
+pub use laws::{at_most_one_row_fits, the_row_that_fits_decides};
 pub use op::{Condition, Count, NamedCodes, Op};
 pub use operand::{Mode, Operand, Register, Size};

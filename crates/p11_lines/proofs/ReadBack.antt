@@ -1,5 +1,5 @@
 -- The text of a line reads as the line.
-use Rattle.std.proofs.Common.{◌≡◌, ℕ, zero, suc, ◌+◌, ◌<◌, ◌≤◌, Bool, true, false, not, nat_le, List, [], ◌∷◌, ◌++◌, length, map, refl, sym, ap, subst, ◌∙◌, arith, append_assoc, append-nil, Option, Some, None, All, codes}
+use Rattle.std.proofs.Common.{◌≡◌, ℕ, suc, ◌≤◌, true, false, not, nat_le, List, [], ◌∷◌, ◌++◌, length, map, refl, ap, ◌∙◌, arith, append-nil, Some, All, codes}
 use Rattle.std.specs.List.{flat_map, list_all}
 use Rattle.std.specs.Fmt.{decimal}
 use Rattle.std.proofs.lemmas.Bool.{not-true}
@@ -10,7 +10,7 @@ use Rattle.p11_lines.specs.declared.line.Line.TheVariants.{Examine, Deposit, Sta
 use Rattle.p11_lines.specs.Grammar.{is_blank, words_of, address_from, word_from, all_words_from, examine_from, deposit_from, start_from, step_from, regs_from, line_from_words, line_from}
 use Rattle.p11_lines.specs.LineText.{octal, line_text, FitsCount, FitsGrammar}
 use Rattle.p11_lines.proofs.Parts.{words_of-word, words_of-last}
-use Rattle.p11_lines.proofs.Numbers.{Writes, number_from-Writes, graphs_from-AllDigits, octal-Writes, decimal-Writes, count_from-decimal}
+use Rattle.p11_lines.proofs.Numbers.{number_from-Writes, graphs_from-AllDigits, octal-Writes, decimal-Writes, count_from-decimal}
 
 -- a word of digits
 octal-graphs : (number : ℕ) → number ≤ 262143 → All (λ byte. is_blank byte ≡ false) (octal number)

@@ -1,5 +1,5 @@
 -- The lines of a script: which bytes are a line, and which line they are.
-use Rattle.std.specs.Prelude.{ℕ, ◌+◌, Bool, true, false, ◌&&◌, ◌||◌, nat_lt, nat_le, nat_eq, List, [], ◌∷◌, length, filter, Option, Some, None, option_and_then, if◌then◌else◌, codes}
+use Rattle.std.specs.Prelude.{ℕ, Bool, ◌&&◌, ◌||◌, nat_lt, nat_le, nat_eq, List, [], ◌∷◌, length, filter, Option, Some, None, option_and_then, if◌then◌else◌, codes}
 use Rattle.std.specs.List.{list_all, slice_split}
 use Rattle.std.specs.Str.{bytes_eq}
 use Rattle.std.specs.Char.{digit_value}

@@ -1,5 +1,5 @@
 -- The text of a line: one space between words, and numbers without leading zeros.
-use Rattle.std.specs.Prelude.{ℕ, ◌≡◌, ◌<◌, ◌≤◌, false, List, [], ◌∷◌, ◌++◌, length, All, Some, codes}
+use Rattle.std.specs.Prelude.{ℕ, ◌≡◌, ◌<◌, ◌≤◌, false, List, ◌∷◌, ◌++◌, length, All, Some, codes}
 use Rattle.std.specs.List.{flat_map}
 use Rattle.std.specs.Fmt.{digits, decimal}
 use Rattle.p11_lines.specs.declared.line.Line.{Line}

@@ -47,7 +47,8 @@ pub struct Registers {
 }
 
 /// What a command answers.
-#[derive(Debug, Drop)]
+#[derive(Drop)]
+#[derive_where(Debug, PartialEq, Eq)]
 pub enum Answer<A: Allocator = Global> {
     /// The command is done, and has nothing to show.
     Done,

@@ -102,7 +102,7 @@ impl From<AllocError> for Fault {
     ghost from_gives = { λ _ e. e ≡ fault.NoMemory };
 
     fn from(_: AllocError) -> Self {
-        Fault::NoMemory
+        Fault::from(NoMemory)
     }
 }
 
@@ -110,6 +110,6 @@ impl<T: Drop> From<AllocFailed<T>> for Fault {
     ghost from_gives = { λ _ e. e ≡ fault.NoMemory };
 
     fn from(_: AllocFailed<T>) -> Self {
-        Fault::NoMemory
+        NoMemory.into()
     }
 }

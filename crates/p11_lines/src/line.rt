@@ -3,7 +3,8 @@ use crate::words::Words;
 use std::alloc::{Allocator, Global};
 
 /// A line of a script. Addresses and words are octal in the text, counts and turns decimal.
-#[derive(Debug, Drop)]
+#[derive(Drop)]
+#[derive_where(Debug, PartialEq, Eq)]
 pub enum Line<A: Allocator = Global> {
     /// Show so many words from a bus address of 18 bits on.
     Examine { address: u32, count: u32 },

@@ -43,5 +43,4 @@ pub fn line_of<A: Allocator>(alloc: A, line: &Line<A>) -> Result<Vec<u8, A>, NoM
 /// at most 4,096 bytes, is what `parse_line` finds in that text.
 pub fn text_reads_back<A: Allocator>(line: &Line<A>)
     ensures { ReadsBack line.now }
-{
-}
+{}

@@ -19,9 +19,9 @@ push_at : (piece : List ℕ) (b : ℕ) → (length piece < 4097) ⊎ (4097 ≤ l
 unfolding kept
 push_at piece b (inl lt) = rw (le-leb (length piece) 4097 (omega arith), lt-ltb (length piece) 4097 lt, length_push piece b, le-leb (length piece + 1) 4097 (omega arith)) refl
 push_at piece b (inr le) = elim (cases_eq (length piece) 4097) [
-    | inl e ↦ rw (le-leb (length piece) 4097 (omega arith), le-ltb (length piece) 4097 le, length_push piece b, lt-leb (length piece + 1) 4097 (omega arith)) refl
-    | inr ne ↦ rw (lt-leb (length piece) 4097 (above (length piece) le ne), length_push piece b, lt-leb (length piece + 1) 4097 (omega arith)) refl
-  ]
+  | inl e ↦ rw (le-leb (length piece) 4097 (omega arith), le-ltb (length piece) 4097 le, length_push piece b, lt-leb (length piece + 1) 4097 (omega arith)) refl
+  | inr ne ↦ rw (lt-leb (length piece) 4097 (above (length piece) le ne), length_push piece b, lt-leb (length piece + 1) 4097 (omega arith)) refl
+]
 
 -- one more byte
 pub kept_push : (piece : List ℕ) (b : ℕ) → pushed (kept piece) b ≡ kept (piece ++ b ∷ [])
@@ -30,14 +30,14 @@ kept_push piece b = push_at piece b (cases_lt (length piece) 4097)
 -- what is kept is the line
 pub kept_is : (piece bytes : List ℕ) → Some bytes ≡ kept piece → bytes ≡ piece
 unfolding kept
-kept_is piece bytes e = elim (cases_cond (leb (length piece) 4097) (Some piece) None (Some bytes) e) [ | inl h ↦ cc | inr h ↦ absurd cc ]
+kept_is piece bytes e = elim (cases_cond (leb (length piece) 4097) (Some piece) None (Some bytes) e) [ inl h ↦ cc | inr h ↦ absurd cc ]
 
 none_long : (piece : List ℕ) → None ≡ kept piece → 4097 < length piece
 unfolding kept
 none_long piece e = elim (cases_Bool (leb (length piece) 4097)) [
-    | inl h ↦ absurd (none_some (rw h at e))
-    | inr h ↦ leb-false _ _ h
-  ]
+  | inl h ↦ absurd (none_some (rw h at e))
+  | inr h ↦ leb-false _ _ h
+]
 
 -- where nothing is kept the line is too long, with a CR at its end or without
 pub none_too_long : (piece : List ℕ) → None ≡ kept piece → 4096 < length piece

@@ -25,9 +25,9 @@ not_yet n k s s' h goes j below =
     elim (cases_lt j k) [
       | inl earlier ↦ goes.goes_on j earlier
       | inr now ↦
-        let same : j ≡ k = omega arith in
-        let other : (k == n) ≡ false = grind (arith, h) in
-        rw same (goes.last ∙ ap (λ b. if b then Some reasons.Turns else None) other)
+          let same : j ≡ k = omega arith in
+          let other : (k == n) ≡ false = grind (arith, h) in
+          rw same (goes.last ∙ ap (λ b. if b then Some reasons.Turns else None) other)
     ]
 
 after_one : (k : ℕ) (s s' z : State) (t : Turn) → s' ≡ after_turns k s → turn_of s' ≡ (z, t) → z ≡ after_turns (k + 1) s

@@ -41,9 +41,14 @@ module _ {A : Type 0} where
   unfolding Runs
   runs_push [] s answers s' line answer s'' r d =
       (answer, s'', [], subst (λ (x : State). LineDoes line x answer s'') r.1 d, (refl, refl), ap (λ (x : List (Answer A)). x ++ option_to_list answer) r.0 ∙ sym (append-nil (option_to_list answer)))
-  runs_push (l ∷ lines) s answers s' line answer s'' r d =
-      (r.0, r.1, r.2 ++ option_to_list answer, r.3, runs_push lines r.1 r.2 s' line answer s'' r.4 d,
-       ap (λ (x : List (Answer A)). x ++ option_to_list answer) r.5 ∙ append_assoc (option_to_list r.0) r.2 (option_to_list answer))
+  runs_push (l ∷ lines) s answers s' line answer s'' r d = (
+    r.0,
+    r.1,
+    r.2 ++ option_to_list answer,
+    r.3,
+    runs_push lines r.1 r.2 s' line answer s'' r.4 d,
+    ap (λ (x : List (Answer A)). x ++ option_to_list answer) r.5 ∙ append_assoc (option_to_list r.0) r.2 (option_to_list answer),
+  )
 
   -- one line more is done
   did_push : (lines : List (List ℕ)) (s : State) (a : Option (List ℕ)) (s' : State) (b : Option (List ℕ)) (n : ℕ) (line : List ℕ) (answer : Option (Answer A)) (s'' : State) (c : Option (List ℕ)) (k : ℕ)
@@ -95,7 +100,7 @@ module _ {A : Type 0} where
       → AppendsFront b c (text_of answer) → Broke A (ended_lines (read ++ byte ∷ [])) s a s'' c
   broke_line read s a s' b n buffer byte answer s'' c h lf does w =
       subst (λ (x : List (List ℕ)). Broke A x s a s'' c) (sym (lines_at_lf read byte (eq-eqb byte 10 lf)))
-        (broke_push (ended_lines read) [] s a s' b n (without_cr (pieces_of read).last) answer s'' c h.did (does (pieces_of read).last h.buffer_is) w)
+      (broke_push (ended_lines read) [] s a s' b n (without_cr (pieces_of read).last) answer s'' c h.did (does (pieces_of read).last h.buffer_is) w)
 
   -- the last line
   pub did_last : (read : List ℕ) (s : State) (a : Option (List ℕ)) (s' : State) (b : Option (List ℕ)) (n : ℕ) (buffer : Option (List ℕ)) (answer : Option (Answer A)) (s'' : State) (c : Option (List ℕ)) (k : ℕ)

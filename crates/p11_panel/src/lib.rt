@@ -10,10 +10,14 @@ mod range;
 mod refusal;
 mod run;
 mod script;
+#[cfg(test)]
+mod tests;
 
 pub use command::Command;
 pub use config::Config;
-pub use p11_lines::{Answer, Fault, Line, Mark, NoMemory, Registers, StopReason, Words, line_of, parse_line};
+pub use p11_lines::{
+    Answer, Fault, Line, Mark, NoMemory, Registers, StopReason, Words, line_of, parse_line,
+};
 pub use panel::Panel;
 pub use playing::play;
 pub use script::{SessionFault, session};

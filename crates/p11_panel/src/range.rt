@@ -27,7 +27,12 @@ impl<A: Allocator> Panel<A> {
 
     /// So many words from an even address on. The only error is want of memory.
     #[tactic(auto, using(crate::proofs::RangeLemmas::all_answer_at), unfolding(crate::specs::Ranges::words_at))]
-    pub(crate) fn words_at(&self, alloc: A, address: u32, count: u32) -> Result<Vec<u16, A>, AllocError>
+    pub(crate) fn words_at(
+        &self,
+        alloc: A,
+        address: u32,
+        count: u32,
+    ) -> Result<Vec<u16, A>, AllocError>
         requires { all_answer address count self.now ≡ true }
         ensures { IfOk result (λ words. words.items ≡ words_at address count self.now) }
     {

@@ -7,10 +7,15 @@ use p11_lines::Fault;
 use std::alloc::Allocator;
 
 const MOST_EXAMINED: u32 = 512;
+
 const MOST_DEPOSITED: usize = 64;
+
 const MOST_TURNS: u32 = 100_000_000;
+
 const LAST_TURN: u64 = 0x4000_0000_0000_0000;
+
 const LAST_ADDRESS: u64 = 0o777777;
+
 const IO_PAGE: u64 = 0o760000;
 
 /// Whether more than one word is written from an address on, and the last of them to the I/O page.

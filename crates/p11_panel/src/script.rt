@@ -108,7 +108,11 @@ fn trimmed(piece: &[u8]) -> &[u8]
 
 /// Does the line that LF has ended.
 #[tactic(auto, using(crate::proofs::BufferLemmas::kept_is))]
-fn end_line<A: Allocator + Copy>(alloc: A, panel: &mut Panel<A>, buffer: &LineBuffer) -> Option<Answer<A>>
+fn end_line<A: Allocator + Copy>(
+    alloc: A,
+    panel: &mut Panel<A>,
+    buffer: &LineBuffer,
+) -> Option<Answer<A>>
     ensures { (piece : List ℕ) → buffer.now ≡ kept piece → LineDoes (without_cr piece) panel.old result panel.new }
 {
     match buffer.get() {
@@ -119,7 +123,11 @@ fn end_line<A: Allocator + Copy>(alloc: A, panel: &mut Panel<A>, buffer: &LineBu
 
 /// Does the last line, which no LF ends.
 #[tactic(auto, using(crate::proofs::BufferLemmas::kept_is))]
-fn last_line<A: Allocator + Copy>(alloc: A, panel: &mut Panel<A>, buffer: &LineBuffer) -> Option<Answer<A>>
+fn last_line<A: Allocator + Copy>(
+    alloc: A,
+    panel: &mut Panel<A>,
+    buffer: &LineBuffer,
+) -> Option<Answer<A>>
     ensures { (piece : List ℕ) → buffer.now ≡ kept piece → LineDoes piece panel.old result panel.new }
 {
     match buffer.get() {

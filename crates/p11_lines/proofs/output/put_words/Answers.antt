@@ -1,6 +1,6 @@
-use Rattle.std.proofs.Common.{◌≡◌, ◌+◌, ◌*◌, ◌%◌, ℕ, List, [], length, drop, get_or, subst, sym, ap, ◌∙◌, arith}
+use Rattle.std.proofs.Common.{◌+◌, ◌*◌, drop, get_or, subst, arith}
 use Rattle.std.specs.Io.KnownBytes.{Appends}
-use Rattle.p11_lines.specs.AnswerText.{exam_text, exam_texts}
+use Rattle.p11_lines.specs.AnswerText.{exam_texts}
 use Rattle.p11_lines.specs.Written.{AppendsFront}
 use Rattle.p11_lines.proofs.Pieces.{Wrote-piece, Appends-wrote, AppendsFront-piece, OnErr-always, exam_texts_drop, exam_text_low, length-exam_texts-past}
 use Rattle.p11_lines.proofs.output.put_words.Goals as goal

@@ -1,8 +1,6 @@
-use Rattle.std.proofs.Common.{◌≡◌, ◌-◌, length, take, drop, arith, Some, None}
-use Rattle.std.specs.Prelude.{position}
+use Rattle.std.proofs.Common.{◌≡◌, ◌-◌, length, take, drop, arith}
 use Rattle.std.proofs.lemmas.List.{length-drop, take_all}
-use Rattle.p11_lines.specs.Grammar.{is_blank}
-use Rattle.p11_lines.proofs.Parts.{is_graph, next_none, next_last, next_some}
+use Rattle.p11_lines.proofs.Parts.{next_none, next_last, next_some}
 use Rattle.p11_lines.proofs.parse.next_word.Goals as goal
 
 pub returns-in_err-rest-clause-words : goal.returns-in_err-rest-clause-words

@@ -18,15 +18,15 @@ returns-in_err-answered-clause-err g c =
     let bytes = c.args.bytes.now in
     let i = c.loop-byte.byte-index in
     rw e.1 (λ read s start count h.
-      let broke = c.in_err-answered.ensures.err (read ++ take i bytes) s start (count + c.loop-byte.answered) (c.loop-byte.invariant.stands read s start count h) in
-      let here = broke_is _ (read ++ take (i + 1) bytes) s start _ _ (chunk_more read bytes i c.loop-byte-test.true) broke in
-      broke_is _ (read ++ bytes) s start _ _ (chunk_rest read bytes (i + 1)) (broke_bytes (read ++ take (i + 1) bytes) (drop (i + 1) bytes) s start _ _ here))
+    let broke = c.in_err-answered.ensures.err (read ++ take i bytes) s start (count + c.loop-byte.answered) (c.loop-byte.invariant.stands read s start count h) in
+    let here = broke_is _ (read ++ take (i + 1) bytes) s start _ _ (chunk_more read bytes i c.loop-byte-test.true) broke in
+    broke_is _ (read ++ bytes) s start _ _ (chunk_rest read bytes (i + 1)) (broke_bytes (read ++ take (i + 1) bytes) (drop (i + 1) bytes) s start _ _ here))
 
 pub loop-byte-preserved : goal.loop-byte-preserved
 loop-byte-preserved g c = record {
   few = omega (arith, c.in_ok-answered.ensures.one, c.loop-byte.invariant.few);
   stands = λ read s start count h.
-    stands_is _ (read ++ take (c.loop-byte.byte-index + 1) c.args.bytes.now) s start _ _ _ (count + (c.loop-byte.answered + c.in_ok-answered.field-0)) _
+      stands_is _ (read ++ take (c.loop-byte.byte-index + 1) c.args.bytes.now) s start _ _ _ (count + (c.loop-byte.answered + c.in_ok-answered.field-0)) _
       (chunk_more read c.args.bytes.now c.loop-byte.byte-index c.loop-byte-test.true) (sums count c.loop-byte.answered c.in_ok-answered.field-0)
       (c.in_ok-answered.ensures.ok (read ++ take c.loop-byte.byte-index c.args.bytes.now) s start (count + c.loop-byte.answered) (c.loop-byte.invariant.stands read s start count h));
 }
@@ -34,4 +34,4 @@ loop-byte-preserved g c = record {
 pub returns-clause-ok : goal.returns-clause-ok
 returns-clause-ok g c read s start count h =
     stands_is _ (read ++ c.args.bytes.now) s start _ _ _ (count + c.loop-byte.answered) _
-      (chunk_all read c.args.bytes.now c.loop-byte.byte-index (omega arith)) refl (c.loop-byte.invariant.stands read s start count h)
+    (chunk_all read c.args.bytes.now c.loop-byte.byte-index (omega arith)) refl (c.loop-byte.invariant.stands read s start count h)

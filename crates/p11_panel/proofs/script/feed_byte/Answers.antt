@@ -13,7 +13,7 @@ returns-then-byte-ne10-clause-ok g c read s start count h =
 pub returns-in_default-clause-ok : goal.returns-in_default-clause-ok
 returns-in_default-clause-ok g c read s start count h =
     stands_line read s start _ (g.W.Write.contents c.args.writer.now) count _ _ c.args.byte None _ _ 0 h c.if-byte-ne10.false c.in_default.ensures
-      (Appends-nil (g.W.Write.contents c.args.writer.now)) refl c.clear.ensures
+    (Appends-nil (g.W.Write.contents c.args.writer.now)) refl c.clear.ensures
 
 pub returns-in_err-put_answer-clause-err : goal.returns-in_err-put_answer-clause-err
 returns-in_err-put_answer-clause-err g c =
@@ -24,4 +24,4 @@ pub returns-clause-ok : goal.returns-clause-ok
 returns-clause-ok g c read s start count h =
     let written : Appends (g.W.Write.contents c.args.writer.now) (g.W.Write.contents c.put_answer.new.writer) (text_of c.in-Some.answer) = c.in_ok-put_answer.ensures.ok in
     stands_line read s start _ (g.W.Write.contents c.args.writer.now) count _ _ c.args.byte (Some c.in-Some.answer) _ (g.W.Write.contents c.put_answer.new.writer) 1 h c.if-byte-ne10.false c.in-Some.ensures
-      (subst (λ (t : List ℕ). Appends (g.W.Write.contents c.args.writer.now) (g.W.Write.contents c.put_answer.new.writer) t) (sym (append-nil (text_of c.in-Some.answer))) written) refl c.clear.ensures
+    (subst (λ (t : List ℕ). Appends (g.W.Write.contents c.args.writer.now) (g.W.Write.contents c.put_answer.new.writer) t) (sym (append-nil (text_of c.in-Some.answer))) written) refl c.clear.ensures

@@ -19,4 +19,4 @@ pub returns-clause-ok : goal.returns-clause-ok
 returns-clause-ok g c read s start count h =
     let written : Appends (g.W.Write.contents c.args.writer.now) (g.W.Write.contents c.put_answer.new.writer) (text_of c.in-Some.answer) = c.in_ok-put_answer.ensures.ok in
     did_last read s start _ (g.W.Write.contents c.args.writer.now) count _ (Some c.in-Some.answer) _ (g.W.Write.contents c.put_answer.new.writer) 1 h c.in-Some.ensures
-      (subst (λ (t : List ℕ). Appends (g.W.Write.contents c.args.writer.now) (g.W.Write.contents c.put_answer.new.writer) t) (sym (append-nil (text_of c.in-Some.answer))) written) refl
+    (subst (λ (t : List ℕ). Appends (g.W.Write.contents c.args.writer.now) (g.W.Write.contents c.put_answer.new.writer) t) (sym (append-nil (text_of c.in-Some.answer))) written) refl

@@ -12,18 +12,20 @@ loop-turn-init g c = record {
 
 pub returns-in_err-answered-clause-broke : goal.returns-in_err-answered-clause-broke
 returns-in_err-answered-clause-broke g c _ =
-    let r = c.loop-turn.invariant.reached in
-    (r.read,
-     consumes_zero (g.R.Read.remaining c.args.reader.now) (g.R.Read.remaining c.loop-turn.reader) (g.R.Read.remaining c.read.new.self) r.read _ _ r.consumed c.in-Ok.ensures.bytes.0 c.if-len-eq0.true,
-     c.in_err-answered.ensures.err r.read c.args.panel.now (g.W.Write.contents c.args.writer.now) c.loop-turn.answered r.stands)
+    let r = c.loop-turn.invariant.reached in (
+      r.read,
+      consumes_zero (g.R.Read.remaining c.args.reader.now) (g.R.Read.remaining c.loop-turn.reader) (g.R.Read.remaining c.read.new.self) r.read _ _ r.consumed c.in-Ok.ensures.bytes.0 c.if-len-eq0.true,
+      c.in_err-answered.ensures.err r.read c.args.panel.now (g.W.Write.contents c.args.writer.now) c.loop-turn.answered r.stands,
+    )
 
 pub returns-in_err-answered-2-clause-broke : goal.returns-in_err-answered-2-clause-broke
 returns-in_err-answered-2-clause-broke g c _ =
     let r = c.loop-turn.invariant.reached in
-    let bytes = take c.in-Ok.len c.read.new.buf in
-    (r.read ++ bytes,
-     Consumes-trans (g.R.Read.remaining c.args.reader.now) (g.R.Read.remaining c.loop-turn.reader) (g.R.Read.remaining c.read.new.self) r.read bytes r.consumed c.in-Ok.ensures.bytes.0,
-     broke_script _ _ _ _ _ (c.in_err-answered-2.ensures.err r.read c.args.panel.now (g.W.Write.contents c.args.writer.now) c.loop-turn.answered r.stands))
+    let bytes = take c.in-Ok.len c.read.new.buf in (
+      r.read ++ bytes,
+      Consumes-trans (g.R.Read.remaining c.args.reader.now) (g.R.Read.remaining c.loop-turn.reader) (g.R.Read.remaining c.read.new.self) r.read bytes r.consumed c.in-Ok.ensures.bytes.0,
+      broke_script _ _ _ _ _ (c.in_err-answered-2.ensures.err r.read c.args.panel.now (g.W.Write.contents c.args.writer.now) c.loop-turn.answered r.stands),
+    )
 
 pub loop-turn-preserved : goal.loop-turn-preserved
 loop-turn-preserved g c =
@@ -32,5 +34,5 @@ loop-turn-preserved g c =
     record {
       few = grind (arith, common_steps, c.in_ok-answered-2.ensures.few);
       reached = reached_more _ (g.R.Read.remaining c.args.reader.now) (g.R.Read.remaining c.loop-turn.reader) (g.R.Read.remaining c.read.new.self) _ _ _ _ c.loop-turn.answered _ bytes _ _ _ _ r c.in-Ok.ensures.bytes.0
-        (c.in_ok-answered-2.ensures.ok r.read c.args.panel.now (g.W.Write.contents c.args.writer.now) c.loop-turn.answered r.stands);
+          (c.in_ok-answered-2.ensures.ok r.read c.args.panel.now (g.W.Write.contents c.args.writer.now) c.loop-turn.answered r.stands);
     }

@@ -1,0 +1,354 @@
+use crate::{
+    Answer, Broken, Fault, Line, Mark, Registers, StopReason, Words, line_of, parse_line,
+    put_answer, text_reads_back,
+};
+use linked_list_allocator::LocalHeap;
+use std::alloc::{AllocError, Global};
+use std::io::{self, ErrorKind, Write};
+use std::test::Fail;
+
+#[test]
+fn lines_of_different_spelling_are_equal(rt: HostRuntime) -> Result<(), Fail> {
+    let line = parse_line(rt.alloc(), b"  step\t009")?;
+    assert_eq!(rt; line, parse_line(rt.alloc(), b"step 9")?);
+    assert_eq!(rt; line, Line::Step { turns: 9 });
+    assert_eq!(rt;
+        line_of(rt.alloc(), &line)?.as_slice(),
+        b"step 9".as_slice()
+    );
+    Ok(())
+}
+
+#[test]
+fn each_line_is_read_and_written(rt: HostRuntime) -> Result<(), Fail> {
+    let words = Words::from_vec([0o12700, 5].to_vec(rt.alloc())?);
+    let cases: [(&[u8], Line, &[u8]); 7] = [
+        (
+            b"examine 1000",
+            Line::Examine {
+                address: 0o1000,
+                count: 1,
+            },
+            b"examine 1000 1",
+        ),
+        (
+            b"examine 777777 512\t",
+            Line::Examine {
+                address: 0o777_777,
+                count: 512,
+            },
+            b"examine 777777 512",
+        ),
+        (
+            b"examine 000000 999999999",
+            Line::Examine {
+                address: 0,
+                count: 999_999_999,
+            },
+            b"examine 0 999999999",
+        ),
+        (
+            b"deposit 001000 012700 5",
+            Line::Deposit {
+                address: 0o1000,
+                words,
+            },
+            b"deposit 1000 12700 5",
+        ),
+        (
+            b"\tstart  177777",
+            Line::Start { address: 0o177_777 },
+            b"start 177777",
+        ),
+        (b"step 000000001", Line::Step { turns: 1 }, b"step 1"),
+        (b" regs ", Line::Regs, b"regs"),
+    ];
+    for (text, want, back) in &cases {
+        let line = parse_line(rt.alloc(), text)?;
+        text_reads_back(&line);
+        assert_eq!(rt; line, *want);
+        assert_eq!(rt; line_of(rt.alloc(), &line)?.as_slice(), *back);
+    }
+    Ok(())
+}
+
+#[test]
+fn what_is_no_line_is_refused(rt: HostRuntime) {
+    let cases: [&[u8]; 33] = [
+        b"",
+        b" \t",
+        b"# regs",
+        b"bogus",
+        b"Regs",
+        b"reg",
+        b"regs 1",
+        b"regs\r",
+        b"regs\x0b",
+        b"examine",
+        b"examine 8",
+        b"examine 0001000",
+        b"examine 1000000",
+        b"examine -1",
+        b"examine +1",
+        b"examine 1000 0",
+        b"examine 1000 0000000001",
+        b"examine 1000 1000000000",
+        b"examine 1000 1a",
+        b"examine 1000 1 1",
+        b"deposit",
+        b"deposit 1000",
+        b"deposit 1000000 1",
+        b"deposit 1000 200000",
+        b"deposit 1000 1 2 x",
+        b"start",
+        b"start 200000",
+        b"start 1000 1",
+        b"step",
+        b"step 0",
+        b"step 000000000",
+        b"step 9 9",
+        b"\xff\x00",
+    ];
+    for text in &cases {
+        assert_eq!(rt;
+            parse_line(rt.alloc(), text),
+            Err(Fault::BadLine),
+            "in {text:?}"
+        );
+    }
+}
+
+/// A deposit of so many words, each 0.
+fn deposit_text(alloc: Global, count: usize) -> Result<Vec<u8>, AllocError> {
+    let mut text = Vec::from_slice(alloc, b"deposit 0")?;
+    for _ in 0..count {
+        text.extend_from_slice(b" 0")?;
+    }
+    Ok(text)
+}
+
+#[test]
+fn a_line_has_4096_bytes_at_most(rt: HostRuntime) -> Result<(), Fail> {
+    for count in [64, 2_043] {
+        let mut text = deposit_text(rt.alloc(), count)?;
+        let line = parse_line(rt.alloc(), &text)?;
+        let Line::Deposit { address: 0, words } = &line else {
+            return Err("no deposit")?;
+        };
+        assert_eq!(rt; words.as_slice().len(), count);
+        assert_eq!(rt; line_of(rt.alloc(), &line)?, text);
+        text.extend_from_slice(b" 8")?;
+        assert_eq!(rt; parse_line(rt.alloc(), &text), Err(Fault::BadLine));
+    }
+    let mut text = deposit_text(rt.alloc(), 2_043)?;
+    text.push(b'\t')?;
+    assert_eq!(rt; text.len(), 4_096);
+    assert!(rt; parse_line(rt.alloc(), &text).is_ok());
+    text.push(b'\t')?;
+    assert_eq!(rt; parse_line(rt.alloc(), &text), Err(Fault::BadLine));
+    Ok(())
+}
+
+/// All memory of a heap that is free, in pieces of 16 bytes.
+fn ballast(alloc: Global, heap: &LocalHeap) -> Result<Vec<Vec<u8, &LocalHeap>>, AllocError> {
+    let mut pieces = Vec::new(alloc);
+    for _ in 0..heap.size() / 16 {
+        let Ok(piece) = Vec::with_capacity(heap, 16) else {
+            break;
+        };
+        pieces.push(piece)?;
+    }
+    Ok(pieces)
+}
+
+#[test]
+fn each_growth_of_a_reading_is_refused_in_turn(rt: HostRuntime) -> Result<(), Fail> {
+    let text = deposit_text(rt.alloc(), 64)?;
+    let heap = LocalHeap::new(rt.alloc(), 4_096)?;
+    let mut full = ballast(rt.alloc(), &heap)?;
+    let mut refused = 0u32;
+    for _ in 0..200 {
+        assert_eq!(rt;
+            parse_line(&heap, b"examine 1000 2"),
+            Ok(Line::Examine {
+                address: 0o1000,
+                count: 2
+            })
+        );
+        assert_eq!(rt; parse_line(&heap, b"deposit 1000 8"), Err(Fault::BadLine));
+        match parse_line(&heap, &text) {
+            Ok(line) => {
+                let Line::Deposit { address: 0, words } = line else {
+                    return Err("no deposit")?;
+                };
+                assert_eq!(rt; words.into_vec().as_slice(), [0u16; 64].as_slice());
+                break;
+            }
+            Err(fault) => assert_eq!(rt; fault, Fault::NoMemory),
+        }
+        assert!(rt; refused < 1_000);
+        refused += 1;
+        let _ = full.pop();
+    }
+    assert!(rt; refused > 4 && refused < 100);
+    Ok(())
+}
+
+#[test]
+fn each_growth_of_a_text_is_refused_in_turn(rt: HostRuntime) -> Result<(), Fail> {
+    let heap = LocalHeap::new(rt.alloc(), 4_096)?;
+    let text = deposit_text(rt.alloc(), 64)?;
+    let line = parse_line(&heap, &text)?;
+    let mut full = ballast(rt.alloc(), &heap)?;
+    let mut refused = 0u32;
+    for _ in 0..200 {
+        if let Ok(back) = line_of(&heap, &line) {
+            assert_eq!(rt; back.as_slice(), text.as_slice());
+            break;
+        }
+        assert!(rt; refused < 1_000);
+        refused += 1;
+        let _ = full.pop();
+    }
+    assert!(rt; refused > 4 && refused < 100);
+    Ok(())
+}
+
+/// Registers that differ from one another.
+fn registers() -> Registers {
+    Registers {
+        general: [0o14, 1, 0o177_777, 0o100_000, 0o12_345, 0o70],
+        kernel_sp: 0o700,
+        user_sp: 0o160_000,
+        pc: 0o1012,
+        status: 0o140_017,
+        turns: 4_611_686_018_427_387_904,
+        mark: Mark::Halted,
+    }
+}
+
+#[test]
+fn each_answer_is_written(rt: HostRuntime) -> Result<(), Fail> {
+    let words = Words::from_vec([0, 0o12700].to_vec(rt.alloc())?);
+    let stop = |reason, turns| Answer::Stop {
+        reason,
+        turns,
+        pc: 0o1012,
+    };
+    let waiting = Registers {
+        mark: Mark::Waiting,
+        turns: 0,
+        ..registers()
+    };
+    let cases: [(Answer, &[u8]); 11] = [
+        (Answer::Done, b"OK\n"),
+        (
+            Answer::Word {
+                address: 0o777_560,
+                word: 0o200,
+            },
+            b"EXAM 777560 000200\n",
+        ),
+        (
+            Answer::Words {
+                address: 0o777_776,
+                words,
+            },
+            b"EXAM 777776 000000\nEXAM 000000 012700\n",
+        ),
+        (stop(StopReason::Halt, 3), b"STOP halt 3 001012\n"),
+        (
+            stop(StopReason::Turns, 100_000_000),
+            b"STOP turns 100000000 001012\n",
+        ),
+        (stop(StopReason::Memory, 79), b"STOP memory 79 001012\n"),
+        (stop(StopReason::Trap, 0), b"STOP trap 0 001012\n"),
+        (
+            Answer::Registers(registers()),
+            b"REGS 000014 000001 177777 100000 012345 000070\nSP 000700 160000 PC 001012 PS 140017\nTURN 4611686018427387904 halted\n",
+        ),
+        (
+            Answer::Registers(waiting),
+            b"REGS 000014 000001 177777 100000 012345 000070\nSP 000700 160000 PC 001012 PS 140017\nTURN 0 waiting\n",
+        ),
+        (Answer::Refused(Fault::NoDrive), b"? 1 NoDrive\n"),
+        (Answer::Refused(Fault::BadSize), b"? 15 BadSize\n"),
+    ];
+    for (answer, text) in &cases {
+        let mut out = Vec::new(rt.alloc());
+        put_answer(&mut out, answer)?;
+        assert_eq!(rt; out.as_slice(), *text);
+    }
+    Ok(())
+}
+
+/// A writer that takes so many bytes, three at a time, and then fails or takes none.
+#[derive(Drop)]
+struct Short {
+    taken: Vec<u8>,
+    left: usize,
+    fails: bool,
+}
+
+impl Write for Short {
+    fn write(&mut self, buf: &[u8]) -> io::Result<usize> {
+        let count = buf.len().min(self.left).min(3);
+        if count == 0 && self.fails {
+            return Err(io::Error::from(ErrorKind::Other));
+        }
+        self.taken.extend_from_slice(&buf[..count])?;
+        self.left -= count;
+        Ok(count)
+    }
+
+    fn flush(&mut self) -> io::Result<()> {
+        Ok(())
+    }
+}
+
+#[test]
+fn a_writer_that_stops_has_a_front_of_the_text(rt: HostRuntime) -> Result<(), Fail> {
+    let answer: Answer = Answer::Registers(registers());
+    for (left, fails) in [(5, true), (5, false), (0, true), (0, false), (60, true)] {
+        let mut writer = Short {
+            taken: Vec::new(rt.alloc()),
+            left,
+            fails,
+        };
+        assert_eq!(rt; put_answer(&mut writer, &answer), Err(Broken));
+        let whole = b"REGS 000014 000001 177777 100000 012345 000070\nSP 000700 160000 PC 001012";
+        let Short { taken, .. } = writer;
+        assert_eq!(rt; Some(taken.as_slice()), whole.get(..left));
+    }
+    Ok(())
+}
+
+#[test]
+fn faults_have_their_numbers_and_names(rt: HostRuntime) -> Result<(), Fail> {
+    let table = [
+        (Fault::NoDrive, "NoDrive"),
+        (Fault::DriveEmpty, "DriveEmpty"),
+        (Fault::DriveTaken, "DriveTaken"),
+        (Fault::ImageTooLong, "ImageTooLong"),
+        (Fault::OddAddress, "OddAddress"),
+        (Fault::NoAnswer, "NoAnswer"),
+        (Fault::DriveBusy, "DriveBusy"),
+        (Fault::KeysFull, "KeysFull"),
+        (Fault::BadTape, "BadTape"),
+        (Fault::TooMany, "TooMany"),
+        (Fault::BadRegister, "BadRegister"),
+        (Fault::NoMemory, "NoMemory"),
+        (Fault::BadLine, "BadLine"),
+        (Fault::StoreFault, "StoreFault"),
+        (Fault::BadSize, "BadSize"),
+    ];
+    for (place, (fault, name)) in table.iter().enumerate() {
+        assert_eq!(rt; usize::from(fault.number()), place + 1);
+        assert_eq!(rt; fault.name(), *name);
+    }
+    assert_eq!(rt;
+        format!(in rt.alloc(); "{}", Fault::BadLine)?.as_str(),
+        "the line is not a command"
+    );
+    Ok(())
+}

@@ -1,0 +1,516 @@
+// Sessions over bytes in memory, with readers and writers that fail, and calls whose growths are refused.
+ghost use Rattle.std.specs.Prelude.{Some};
+
+use crate::{
+    Answer, Command, Config, Fault, Mark, NoMemory, Panel, SessionFault, StopReason, Words, play,
+    session,
+};
+use linked_list_allocator::LocalHeap;
+use std::alloc::{AllocError, Global};
+use std::io;
+use std::io::{ErrorKind, Read, Write};
+use std::test::Fail;
+
+/// A machine of 28 thousand words.
+fn new_panel(alloc: Global) -> Result<Panel, NoMemory> {
+    match Config::new(28, 1024) {
+        Ok(config) => Panel::new(alloc, config),
+        Err(_) => Err(NoMemory),
+    }
+}
+
+/// What a session over a script on a new machine writes, and answers.
+fn run_script(
+    alloc: Global,
+    script: &[u8],
+) -> Result<(Vec<u8>, Result<u32, SessionFault>), NoMemory> {
+    let mut panel = new_panel(alloc)?;
+    let mut reader = script;
+    let mut written = Vec::new(alloc);
+    let answered = session(alloc, &mut panel, &mut reader, &mut written);
+    Ok((written, answered))
+}
+
+#[test]
+fn two_numbers_are_added(rt: HostRuntime) -> Result<(), Fail> {
+    let script = b"deposit 1000 12700 5 62700 7 0\nstart 1000\nstep 9\nregs\n";
+    let (written, answered) = run_script(rt.alloc(), script)?;
+    assert_eq!(rt;
+        written.as_slice(),
+        b"OK\nOK\nSTOP halt 3 001012\nREGS 000014 000000 000000 000000 000000 000000\nSP 000000 000000 PC 001012 PS 000000\nTURN 3 halted\n".as_slice()
+    );
+    assert_eq!(rt; answered, Ok(4));
+    Ok(())
+}
+
+#[test]
+fn a_loop_counts_down(rt: HostRuntime) -> Result<(), Fail> {
+    let script = b"deposit 1000 12700 3 62700 177777 1375 0\nstart 1000\nstep 20\nregs\n";
+    let (written, answered) = run_script(rt.alloc(), script)?;
+    assert_eq!(rt;
+        written.as_slice(),
+        b"OK\nOK\nSTOP halt 8 001014\nREGS 000000 000000 000000 000000 000000 000000\nSP 000000 000000 PC 001014 PS 000005\nTURN 8 halted\n".as_slice()
+    );
+    assert_eq!(rt; answered, Ok(4));
+    Ok(())
+}
+
+#[test]
+fn blank_lines_and_remarks_have_no_answer(rt: HostRuntime) -> Result<(), Fail> {
+    let (written, answered) = run_script(
+        rt.alloc(),
+        b"examine 1000\n\nbogus\n# x\n \t# y\n \t\nstep 0\n",
+    )?;
+    assert_eq!(rt;
+        written.as_slice(),
+        b"EXAM 001000 000000\n? 13 BadLine\n? 13 BadLine\n".as_slice()
+    );
+    assert_eq!(rt; answered, Ok(3));
+    let (written, answered) = run_script(rt.alloc(), b"")?;
+    assert_eq!(rt; written.as_slice(), b"".as_slice());
+    assert_eq!(rt; answered, Ok(0));
+    Ok(())
+}
+
+#[test]
+fn a_word_that_is_not_run_stops_the_run(rt: HostRuntime) -> Result<(), Fail> {
+    let (written, _) = run_script(
+        rt.alloc(),
+        b"deposit 1000 3\nstart 1000\nstep 5\nregs\nstep 5\n",
+    )?;
+    assert_eq!(rt;
+        written.as_slice(),
+        b"OK\nOK\nSTOP trap 1 001002\nREGS 000000 000000 000000 000000 000000 000000\nSP 000000 000000 PC 001002 PS 000000\nTURN 1 ready\nSTOP halt 1 001004\n".as_slice()
+    );
+    Ok(())
+}
+
+#[test]
+fn an_operand_in_another_mode_is_not_touched(rt: HostRuntime) -> Result<(), Fail> {
+    // MOV #1000,R0; MOV (R0)+,(R1): the destination's mode is not run, so the source is not stepped either.
+    let (written, _) = run_script(
+        rt.alloc(),
+        b"deposit 1000 12700 1000 12011\nstart 1000\nstep 5\nregs\n",
+    )?;
+    assert_eq!(rt;
+        written.as_slice(),
+        b"OK\nOK\nSTOP trap 2 001006\nREGS 001000 000000 000000 000000 000000 000000\nSP 000000 000000 PC 001006 PS 000000\nTURN 2 ready\n".as_slice()
+    );
+    Ok(())
+}
+
+#[test]
+fn a_stepped_register_stays_stepped_after_a_fault(rt: HostRuntime) -> Result<(), Fail> {
+    // MOV #1,R0; MOV (R0)+,R1 reads a word at an odd address; the next run goes on at PC.
+    let (written, _) = run_script(
+        rt.alloc(),
+        b"deposit 1000 12700 1 12001\nstart 1000\nstep 5\nregs\nstep 1\n",
+    )?;
+    assert_eq!(rt;
+        written.as_slice(),
+        b"OK\nOK\nSTOP trap 2 001006\nREGS 000003 000000 000000 000000 000000 000000\nSP 000000 000000 PC 001006 PS 000000\nTURN 2 ready\nSTOP halt 1 001010\n".as_slice()
+    );
+    Ok(())
+}
+
+#[test]
+fn a_source_register_is_read_after_the_destination_is_stepped(rt: HostRuntime) -> Result<(), Fail> {
+    // MOV #1000,R0; MOV R0,(R0)+ stores the stepped R0.
+    let (written, _) = run_script(
+        rt.alloc(),
+        b"deposit 2000 12700 1000 10020\nstart 2000\nstep 2\nexamine 1000\n",
+    )?;
+    assert_eq!(rt;
+        written.as_slice(),
+        b"OK\nOK\nSTOP turns 2 002006\nEXAM 001000 001002\n".as_slice()
+    );
+    Ok(())
+}
+
+#[test]
+fn each_line_is_refused_in_its_order(rt: HostRuntime) -> Result<(), Fail> {
+    let script =
+        b"examine 1001\nexamine 760000\nexamine 1000 513\nexamine 1001 513\nexamine 157776 2\nexamine 1000000\ndeposit 757776 0 0\ndeposit 777777 0 0\ndeposit 757775 0 0\ndeposit 1001 0\ndeposit 160000 0\ndeposit 760000 0\ndeposit 157776 7 7\nexamine 157776\ndeposit 1000\nstart 1001\nstart 200000\nstep 100000001\nstep 0\nregs 1\nexamine 1000 2\n";
+    let (written, answered) = run_script(rt.alloc(), script)?;
+    assert_eq!(rt;
+        written.as_slice(),
+        b"? 5 OddAddress\n? 6 NoAnswer\n? 10 TooMany\n? 10 TooMany\n? 6 NoAnswer\n? 13 BadLine\n? 10 TooMany\n? 10 TooMany\n? 5 OddAddress\n? 5 OddAddress\n? 6 NoAnswer\n? 6 NoAnswer\n? 6 NoAnswer\nEXAM 157776 000000\n? 13 BadLine\n? 5 OddAddress\n? 13 BadLine\n? 10 TooMany\n? 13 BadLine\n? 13 BadLine\nEXAM 001000 000000\nEXAM 001002 000000\n".as_slice()
+    );
+    assert_eq!(rt; answered, Ok(21));
+    Ok(())
+}
+
+#[test]
+fn lines_end_by_lf_with_a_cr_before_it(rt: HostRuntime) -> Result<(), Fail> {
+    let (written, answered) = run_script(
+        rt.alloc(),
+        b"examine 0\r\n\r\nexamine 0\r\r\n\r\r\nexamine 0\r",
+    )?;
+    assert_eq!(rt;
+        written.as_slice(),
+        b"EXAM 000000 000000\n? 13 BadLine\n? 13 BadLine\n? 13 BadLine\n".as_slice()
+    );
+    assert_eq!(rt; answered, Ok(4));
+    let (written, answered) = run_script(rt.alloc(), b"examine 0\nexamine 2")?;
+    assert_eq!(rt;
+        written.as_slice(),
+        b"EXAM 000000 000000\nEXAM 000002 000000\n".as_slice()
+    );
+    assert_eq!(rt; answered, Ok(2));
+    Ok(())
+}
+
+/// `examine 0`, so many spaces, and an end.
+fn padded(alloc: Global, spaces: usize, end: &[u8]) -> Result<Vec<u8>, AllocError> {
+    let mut script = Vec::from_slice(alloc, b"examine 0")?;
+    for _ in 0..spaces {
+        script.push(b' ')?;
+    }
+    script.extend_from_slice(end)?;
+    Ok(script)
+}
+
+#[test]
+fn a_line_has_4096_bytes_at_most(rt: HostRuntime) -> Result<(), Fail> {
+    let longest = padded(rt.alloc(), 4087, b"\r\nexamine 2\n")?;
+    let (written, _) = run_script(rt.alloc(), longest.as_slice())?;
+    assert_eq!(rt;
+        written.as_slice(),
+        b"EXAM 000000 000000\nEXAM 000002 000000\n".as_slice()
+    );
+    let longer = padded(rt.alloc(), 4088, b"\nexamine 2\n")?;
+    let (written, _) = run_script(rt.alloc(), longer.as_slice())?;
+    assert_eq!(rt;
+        written.as_slice(),
+        b"? 13 BadLine\nEXAM 000002 000000\n".as_slice()
+    );
+    let mut remark = Vec::from_slice(rt.alloc(), b"#")?;
+    for _ in 0..4096 {
+        remark.push(b'x')?;
+    }
+    let (written, answered) = run_script(rt.alloc(), remark.as_slice())?;
+    assert_eq!(rt; written.as_slice(), b"? 13 BadLine\n".as_slice());
+    assert_eq!(rt; answered, Ok(1));
+    Ok(())
+}
+
+#[test]
+fn lines_go_on_over_many_reads(rt: HostRuntime) -> Result<(), Fail> {
+    let mut script = Vec::new(rt.alloc());
+    for _ in 0..1000 {
+        script.extend_from_slice(b"examine 1000\n")?;
+    }
+    let (written, answered) = run_script(rt.alloc(), script.as_slice())?;
+    assert_eq!(rt; written.len(), 19_000);
+    assert!(rt; written.as_slice().ends_with(b"EXAM 001000 000000\n"));
+    assert_eq!(rt; answered, Ok(1000));
+    Ok(())
+}
+
+/// A reader that gives what it has in pieces of at most so many bytes, and fails when it has no more.
+#[derive(Drop)]
+struct FailingReader<'a> {
+    left: &'a [u8],
+    most: usize,
+}
+
+impl Read for FailingReader<'_> {
+    ghost remaining = { λ r. Some r.left.now };
+
+    fn read(&mut self, buf: &mut [u8]) -> io::Result<usize> {
+        if self.left.is_empty() {
+            return Err(io::Error::from(ErrorKind::Other));
+        }
+        let len = self.most.max(1).min(self.left.len()).min(buf.len());
+        let (front, rest) = self.left.split_at(len);
+        buf[..len].copy_from_slice(front);
+        self.left = rest;
+        Ok(len)
+    }
+}
+
+/// A reader that gives LF without end.
+#[derive(Drop)]
+struct EndlessReader;
+
+impl Read for EndlessReader {
+    fn read(&mut self, buf: &mut [u8]) -> io::Result<usize> {
+        if buf.is_empty() {
+            return Ok(0);
+        }
+        buf[0] = b'\n';
+        Ok(1)
+    }
+}
+
+/// A writer that takes so many bytes, and then fails or takes none.
+#[derive(Drop)]
+struct FailingWriter {
+    bytes: Vec<u8>,
+    room: usize,
+    fails: bool,
+}
+
+impl Write for FailingWriter {
+    ghost contents = { λ w. Some w.bytes.items };
+
+    fn write(&mut self, buf: &[u8]) -> io::Result<usize> {
+        let len = buf.len().min(self.room);
+        if len == 0 && self.fails {
+            return Err(io::Error::from(ErrorKind::Other));
+        }
+        self.bytes.extend_from_slice(&buf[..len])?;
+        self.room -= len;
+        Ok(len)
+    }
+
+    fn flush(&mut self) -> io::Result<()> {
+        Ok(())
+    }
+}
+
+#[test]
+fn a_reader_fails(rt: HostRuntime) -> Result<(), Fail> {
+    let alloc = rt.alloc();
+    for most in [4096, 5, 1] {
+        let mut panel = new_panel(alloc)?;
+        let mut reader = FailingReader {
+            left: b"examine 1000\nexamine 1002",
+            most,
+        };
+        let mut written = Vec::new(alloc);
+        let answered = session(alloc, &mut panel, &mut reader, &mut written);
+        assert_eq!(rt; answered, Err(SessionFault::Reading));
+        assert_eq!(rt; written.as_slice(), b"EXAM 001000 000000\n".as_slice());
+    }
+    Ok(())
+}
+
+#[test]
+fn a_script_without_end_is_too_long(rt: HostRuntime) -> Result<(), Fail> {
+    let alloc = rt.alloc();
+    let mut panel = new_panel(alloc)?;
+    let mut written = Vec::new(alloc);
+    let answered = session(alloc, &mut panel, &mut EndlessReader, &mut written);
+    assert_eq!(rt; answered, Err(SessionFault::TooLong));
+    assert!(rt; written.is_empty());
+    Ok(())
+}
+
+#[test]
+fn a_writer_fails_or_takes_nothing(rt: HostRuntime) -> Result<(), Fail> {
+    let alloc = rt.alloc();
+    for fails in [false, true] {
+        let mut panel = new_panel(alloc)?;
+        let mut reader = b"start 2000\nexamine 1000\nstart 1000\n".as_slice();
+        let mut writer = FailingWriter {
+            bytes: Vec::new(alloc),
+            room: 8,
+            fails,
+        };
+        let answered = session(alloc, &mut panel, &mut reader, &mut writer);
+        assert_eq!(rt; answered, Err(SessionFault::Writing));
+        assert_eq!(rt; writer.bytes.as_slice(), b"OK\nEXAM ".as_slice());
+        // the line whose text broke is done, and none after it
+        let Answer::Registers(registers) = panel.act(alloc, &Command::Regs) else {
+            return Err(Fail::from(NoMemory));
+        };
+        assert_eq!(rt; registers.pc, 0o2000);
+    }
+    Ok(())
+}
+
+#[test]
+fn sizes_are_judged(rt: HostRuntime) {
+    for (kwords, lines) in [(6, 0), (28, 4097), (0, 0), (128, 0), (3, 0)] {
+        assert!(rt; matches!(Config::new(kwords, lines), Err(Fault::BadSize)));
+    }
+    for (kwords, lines) in [(4, 0), (28, 1024), (124, 4096)] {
+        assert!(rt;
+            matches!(Config::new(kwords, lines), Ok(config) if config.kwords() == kwords && config.lines() == lines)
+        );
+    }
+}
+
+#[test]
+fn commands_made_by_hand_are_refused(rt: HostRuntime) -> Result<(), Fail> {
+    let alloc = rt.alloc();
+    let mut panel = new_panel(alloc)?;
+    let none = Command::Examine {
+        address: 0o1000,
+        count: 0,
+    };
+    assert!(rt; matches!(panel.act(alloc, &none), Answer::Refused(Fault::TooMany)));
+    let no_words = Command::Deposit {
+        address: 0o1000,
+        words: Words::from_vec(Vec::new(alloc)),
+    };
+    assert!(rt; matches!(panel.act(alloc, &no_words), Answer::Refused(Fault::TooMany)));
+    let no_turns = Command::Step { turns: 0 };
+    assert!(rt; matches!(panel.act(alloc, &no_turns), Answer::Refused(Fault::TooMany)));
+    let past = Command::Examine {
+        address: 0o777_777_776,
+        count: 2,
+    };
+    assert!(rt; matches!(panel.act(alloc, &past), Answer::Refused(Fault::NoAnswer)));
+    let past = Command::Examine {
+        address: 0o37_777_777_776,
+        count: 512,
+    };
+    assert!(rt; matches!(panel.act(alloc, &past), Answer::Refused(Fault::NoAnswer)));
+    Ok(())
+}
+
+/// The commands of the first script of these tests.
+fn adding<A: std::alloc::Allocator + Copy>(alloc: A) -> Result<Vec<Command<A>, A>, AllocError> {
+    let mut words = Vec::new(alloc);
+    words.extend_from_slice(&[0o12700, 5, 0o62700, 7, 0])?;
+    let mut commands = Vec::new(alloc);
+    commands.push(Command::Deposit {
+        address: 0o1000,
+        words: Words::from_vec(words),
+    })?;
+    commands.push(Command::Start { address: 0o1000 })?;
+    commands.push(Command::Step { turns: 9 })?;
+    commands.push(Command::Regs)?;
+    Ok(commands)
+}
+
+#[test]
+fn four_commands_have_four_answers(rt: HostRuntime) -> Result<(), Fail> {
+    let alloc = rt.alloc();
+    let commands = adding(alloc)?;
+    let Ok(config) = Config::new(28, 1024) else {
+        return Err(Fail::from(NoMemory));
+    };
+    let (_, answers) = play(alloc, config, commands.as_slice())?;
+    assert!(rt;
+        matches!(answers.as_slice(), [Answer::Done, Answer::Done,
+        Answer::Stop { reason: StopReason::Halt, turns: 3, pc: 0o1012 },
+        Answer::Registers(registers)] if registers.general[0] == 0o14 && registers.mark == Mark::Halted && registers.turns == 3)
+    );
+    Ok(())
+}
+
+/// All memory of a heap that is free, in pieces of 16 bytes.
+fn fill(alloc: Global, heap: &LocalHeap) -> Result<Vec<Vec<u8, &LocalHeap>>, AllocError> {
+    let mut pieces = Vec::new(alloc);
+    for _ in 0..heap.size() / 16 {
+        let Ok(piece) = Vec::with_capacity(heap, 16) else {
+            break;
+        };
+        pieces.push(piece)?;
+    }
+    Ok(pieces)
+}
+
+#[test]
+fn a_machine_that_memory_refuses(rt: HostRuntime) -> Result<(), Fail> {
+    let Ok(config) = Config::new(4, 0) else {
+        return Err(Fail::from(NoMemory));
+    };
+    let small = LocalHeap::new(rt.alloc(), 8176)?;
+    assert!(rt; matches!(Panel::new(&small, config), Err(NoMemory)));
+    let large = LocalHeap::new(rt.alloc(), 16384)?;
+    let mut panel = Panel::new(&large, config)?;
+    let last = Command::Examine {
+        address: 0o17776,
+        count: 1,
+    };
+    assert!(rt;
+        matches!(
+            panel.act(&large, &last),
+            Answer::Word {
+                address: 0o17776,
+                word: 0
+            }
+        )
+    );
+    Ok(())
+}
+
+#[test]
+fn an_answer_of_several_words_that_memory_refuses(rt: HostRuntime) -> Result<(), Fail> {
+    let Ok(config) = Config::new(4, 0) else {
+        return Err(Fail::from(NoMemory));
+    };
+    let heap = LocalHeap::new(rt.alloc(), 16384)?;
+    let mut panel = Panel::new(&heap, config)?;
+    let commands = adding(&heap)?;
+    for command in &commands {
+        let _ = panel.act(&heap, command);
+    }
+    let mut ballast = fill(rt.alloc(), &heap)?;
+    let several = Command::Examine {
+        address: 0o1000,
+        count: 40,
+    };
+    let mut refused = 0u32;
+    for _ in 0..100 {
+        match panel.act(&heap, &several) {
+            Answer::Words { address, words } => {
+                assert_eq!(rt; (address, words.as_slice().len()), (0o1000, 40));
+                assert!(rt;
+                    words
+                        .as_slice()
+                        .starts_with(&[0o12700, 5, 0o62700, 7, 0, 0])
+                );
+                break;
+            }
+            answer => {
+                assert!(rt; matches!(answer, Answer::Refused(Fault::NoMemory)));
+                // one word takes no memory, and the state is as it was
+                let one = Command::Examine {
+                    address: 0o1002,
+                    count: 1,
+                };
+                assert!(rt;
+                    matches!(
+                        panel.act(&heap, &one),
+                        Answer::Word {
+                            address: 0o1002,
+                            word: 5
+                        }
+                    )
+                );
+                assert!(rt;
+                    matches!(panel.act(&heap, &Command::Regs), Answer::Registers(registers)
+                    if registers.general[0] == 0o14 && registers.pc == 0o1012 && registers.turns == 3)
+                );
+                assert!(rt; refused < 1000);
+                refused += 1;
+                let _ = ballast.pop();
+            }
+        }
+    }
+    assert!(rt; refused > 3 && refused < 100);
+    Ok(())
+}
+
+#[test]
+fn a_list_of_commands_that_memory_refuses(rt: HostRuntime) -> Result<(), Fail> {
+    let Ok(config) = Config::new(4, 0) else {
+        return Err(Fail::from(NoMemory));
+    };
+    // The words of memory, the commands and the answers: from a heap that has no room for the machine to one with room for all.
+    let mut size = 8192usize;
+    let mut refused = 0u32;
+    for _ in 0..200 {
+        let heap = LocalHeap::new(rt.alloc(), size)?;
+        let ample = LocalHeap::new(rt.alloc(), 4096)?;
+        let commands = adding(&ample)?;
+        match play(&heap, config, commands.as_slice()) {
+            Ok((_, answers)) => {
+                assert_eq!(rt; answers.len(), 4);
+                break;
+            }
+            Err(NoMemory) => {
+                assert!(rt; refused < 1000 && size < 100_000);
+                refused += 1;
+                size += 16;
+            }
+        }
+    }
+    assert!(rt; refused > 1 && refused < 200);
+    Ok(())
+}

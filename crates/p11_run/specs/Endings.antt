@@ -1,0 +1,27 @@
+-- How the program ends: its exit status, and what it says.
+use Rattle.std.specs.Prelude.{ℕ, List, [], codes}
+use Rattle.std.specs.String.{string_bytes}
+use Rattle.p11_panel.specs.declared.script.SessionFault.TheVariants.{Reading, Writing, TooLong}
+use Rattle.p11_run.specs.declared.ending.Cause.{Cause}
+use Rattle.p11_run.specs.declared.ending.Cause.TheVariants.{Done, Help, Usage, NotUtf8, BadSize, NoMemory, Session}
+
+-- 0: the end of the script, or help; 1: a fault of the session; 2: a command line that is refused; 3: no memory
+abbrev pub status_of : Cause → ℕ
+status_of Done = 0
+status_of (Help text) = 0
+status_of (Usage text) = 2
+status_of NotUtf8 = 2
+status_of BadSize = 2
+status_of NoMemory = 3
+status_of (Session fault) = 1
+
+abbrev pub text_of : Cause → List ℕ
+text_of Done = []
+text_of (Help text) = string_bytes text
+text_of (Usage text) = string_bytes text
+text_of NotUtf8 = codes "p11: arguments are not UTF-8\n"
+text_of BadSize = codes "? 15 BadSize\n"
+text_of NoMemory = codes "p11: no memory\n"
+text_of (Session Reading) = codes "p11: read fault\n"
+text_of (Session Writing) = codes "p11: write fault\n"
+text_of (Session TooLong) = codes "p11: script too long\n"

@@ -1,0 +1,66 @@
+ghost use Rattle.std.specs.Prelude.{◌≡◌};
+ghost use Rattle.p11_run.specs.Endings.{status_of, text_of};
+
+use p11_panel::{Fault, NoMemory, SessionFault};
+use std::alloc::{AllocError, AllocFailed};
+
+/// Why the program ends.
+#[derive(Debug, Drop)]
+pub enum Cause {
+    /// The script's end.
+    Done,
+    /// Help was asked for: its text.
+    Help(String),
+    /// The command line is refused: why, and how to write it.
+    Usage(String),
+    /// An argument is no text.
+    NotUtf8,
+    /// No machine has the sizes that were asked for.
+    BadSize,
+    /// There was no memory before the session began.
+    NoMemory,
+    /// The session ended before its script did.
+    Session(SessionFault),
+}
+
+/// The exit status, and what is said: of help on standard output, and else on standard error.
+pub fn ending(cause: &Cause) -> (u8, &str)
+    ensures status { result.0 ≡ status_of cause.now }
+    ensures text { result.1.now ≡ text_of cause.now }
+{
+    match cause {
+        Cause::Done => (0, ""),
+        Cause::Help(text) => (0, text.as_str()),
+        Cause::Usage(text) => (2, text.as_str()),
+        Cause::NotUtf8 => (2, "p11: arguments are not UTF-8\n"),
+        Cause::BadSize => (2, "? 15 BadSize\n"),
+        Cause::NoMemory => (3, "p11: no memory\n"),
+        Cause::Session(SessionFault::Reading) => (1, "p11: read fault\n"),
+        Cause::Session(SessionFault::Writing) => (1, "p11: write fault\n"),
+        Cause::Session(SessionFault::TooLong) => (1, "p11: script too long\n"),
+    }
+}
+
+impl From<NoMemory> for Cause {
+    fn from(_: NoMemory) -> Self {
+        Cause::NoMemory
+    }
+}
+
+impl<T: Drop> From<AllocFailed<T>> for Cause {
+    fn from(_: AllocFailed<T>) -> Self {
+        Cause::NoMemory
+    }
+}
+
+impl From<AllocError> for Cause {
+    fn from(_: AllocError) -> Self {
+        Cause::NoMemory
+    }
+}
+
+impl From<SessionFault> for Cause {
+    fn from(fault: SessionFault) -> Self {
+        Cause::Session(fault)
+    }
+}

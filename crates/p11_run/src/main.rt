@@ -1,0 +1,68 @@
+//! The program `p11`: a PDP-11/40 under an operator's script.
+//!
+//! `p11 [--memory K] [--lines N] SCRIPT` does the lines of the script, and writes their answers to standard output.
+#![tactic(auto)]
+
+mod ending;
+mod settings;
+#[cfg(test)]
+mod tests;
+
+use crate::ending::{Cause, ending};
+use crate::settings::{Launch, settings};
+use p11_panel::{Panel, SessionFault, session};
+use std::fs::File;
+use std::io;
+use std::process::ExitCode;
+use std::env;
+
+fn main(rt: HostRuntime) -> ExitCode {
+    let cause = match run(&rt) {
+        Ok(()) => Cause::Done,
+        Err(cause) => cause,
+    };
+    let (status, text) = ending(&cause);
+    let said = match &cause {
+        Cause::Done => Ok(()),
+        Cause::Help(_) => rt.print(text),
+        _ => rt.eprint(text),
+    };
+    match said {
+        Ok(()) => ExitCode::from(status),
+        Err(_) => ExitCode::FAILURE,
+    }
+}
+
+/// Reads the command line, and runs the script that it names.
+fn run(rt: &HostRuntime) -> Result<(), Cause> {
+    let words = words(rt)?;
+    let launch = settings(rt.alloc(), words.as_slice())?;
+    run_script(rt, &launch)
+}
+
+/// The words of the command line, the program's name first.
+fn words(rt: &HostRuntime) -> Result<Vec<String>, Cause> {
+    let mut words = Vec::new(rt.alloc());
+    match env::args(rt) {
+        Ok(arguments) => {
+            for argument in arguments {
+                words.push(argument)?;
+            }
+            Ok(words)
+        }
+        Err(error) => Err(match error.kind() {
+            io::ErrorKind::OutOfMemory => Cause::NoMemory,
+            _ => Cause::NotUtf8,
+        }),
+    }
+}
+
+/// Makes the machine, opens the script and runs the session.
+fn run_script(rt: &HostRuntime, launch: &Launch<'_>) -> Result<(), Cause> {
+    let mut panel = Panel::new(rt.alloc(), launch.config)?;
+    let Ok(mut script) = File::open(rt, launch.script) else {
+        return Err(Cause::Session(SessionFault::Reading));
+    };
+    session(rt.alloc(), &mut panel, &mut script, &mut io::writer(rt))?;
+    Ok(())
+}
