@@ -1,1 +1,7 @@
+pub mod Carries
+pub mod CarryRules
+pub mod JoinedBits
+pub mod Powers
+pub mod Quotients
+pub mod Shifting
 pub mod Signs

@@ -1,2 +1,7 @@
+pub mod CountedShifts
 pub mod Numbers
+pub mod Pairs
+pub mod Products
 pub mod Results
+pub mod Shifts
+pub mod ShiftsAtOnce

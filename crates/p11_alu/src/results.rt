@@ -1,13 +1,13 @@
-ghost use Rattle.std.specs.Prelude.{◌≡◌, ◌<◌, ◌+◌, ◌%◌, ◌+ℤ◌, ◌-ℤ◌, int_lt, not, pos};
+ghost use Rattle.std.specs.Prelude.{◌≡◌, ◌<◌, ℕ, Bool, ◌+ℤ◌, ◌-ℤ◌, int_lt, not, pos};
 ghost use Rattle.std.specs.Ordering.{int_eq};
 ghost use Rattle.p11_alu.specs.Numbers.{Fits, modulus, val, sval, wrapped};
-ghost use Rattle.p11_alu.specs.Results.{logic_codes, add_of};
+ghost use Rattle.p11_alu.specs.Results.{logic_codes, add_of, sub_of, cmp_codes, inc_of, dec_of, neg_of, adc_of, sbc_of, carry_of, result_of};
 
 use crate::codes::Codes;
 use crate::size::Size;
 
 /// The bits of a size.
-fn cut(size: Size, number: u16) -> u16
+pub(crate) fn cut(size: Size, number: u16) -> u16
     ensures value { result ≡ val size number }
     ensures fits { Fits size result }
 {
@@ -18,7 +18,7 @@ fn cut(size: Size, number: u16) -> u16
 }
 
 /// The sign bit of a number of a size.
-fn is_negative(size: Size, number: u16) -> bool
+pub(crate) fn is_negative(size: Size, number: u16) -> bool
     ensures { result ≡ int_lt (sval size number) (pos 0) }
 {
     match size {
@@ -27,7 +27,23 @@ fn is_negative(size: Size, number: u16) -> bool
     }
 }
 
-/// A sum of words doesn't fit: two equal signs gave the other one.
+/// The sum without its carry.
+fn wrapped_sum(size: Size, a: u16, b: u16) -> u16
+    ensures value { result ≡ wrapped (modulus size) (pos (val size a) +ℤ pos (val size b)) }
+    ensures fits { Fits size result }
+{
+    cut(size, a.wrapping_add(b))
+}
+
+/// The difference without its borrow.
+fn wrapped_difference(size: Size, a: u16, b: u16) -> u16
+    ensures value { result ≡ wrapped (modulus size) (pos (val size a) -ℤ pos (val size b)) }
+    ensures fits { Fits size result }
+{
+    cut(size, a.wrapping_sub(b))
+}
+
+/// A sum doesn't fit: two equal signs gave the other one.
 fn sum_overflows(size: Size, a: u16, b: u16, sum: u16) -> bool
     requires { sum ≡ wrapped (modulus size) (pos (val size a) +ℤ pos (val size b)) }
     ensures { result ≡ not (int_eq (sval size a +ℤ sval size b) (sval size sum)) }
@@ -36,7 +52,16 @@ fn sum_overflows(size: Size, a: u16, b: u16, sum: u16) -> bool
     sign == is_negative(size, b) && sign != is_negative(size, sum)
 }
 
-/// ADD: the sum of two words.
+/// A difference doesn't fit: two signs differed, and the first was lost.
+fn difference_overflows(size: Size, a: u16, b: u16, difference: u16) -> bool
+    requires { difference ≡ wrapped (modulus size) (pos (val size a) -ℤ pos (val size b)) }
+    ensures { result ≡ not (int_eq (sval size a -ℤ sval size b) (sval size difference)) }
+{
+    let sign = is_negative(size, a);
+    sign != is_negative(size, b) && sign != is_negative(size, difference)
+}
+
+/// ADD: the sum of two words. C is the carry out of bit 15.
 #[tactic(auto, unfolding(crate::specs::Results::add_of))]
 pub fn add(source: u16, destination: u16) -> (u16, Codes)
     ensures { result ≡ add_of source destination }
@@ -49,6 +74,125 @@ pub fn add(source: u16, destination: u16) -> (u16, Codes)
         c: sum < source,
     };
     (sum, codes)
+}
+
+/// SUB: the destination minus the source, both words. C is the borrow.
+#[tactic(auto, unfolding(crate::specs::Results::sub_of))]
+pub fn sub(source: u16, destination: u16) -> (u16, Codes)
+    ensures { result ≡ sub_of source destination }
+{
+    let difference = wrapped_difference(Size::Word, destination, source);
+    let codes = Codes {
+        n: is_negative(Size::Word, difference),
+        z: difference == 0,
+        v: difference_overflows(Size::Word, destination, source, difference),
+        c: destination < source,
+    };
+    (difference, codes)
+}
+
+/// CMP: the codes of the source minus the destination, where SUB has it the other way. C is the
+/// borrow. Of bytes the low byte of each is looked at alone.
+#[tactic(auto, unfolding(crate::specs::Results::cmp_codes))]
+pub fn cmp(size: Size, source: u16, destination: u16) -> Codes
+    ensures { result ≡ cmp_codes size source destination }
+{
+    let difference = wrapped_difference(size, source, destination);
+    Codes {
+        n: is_negative(size, difference),
+        z: difference == 0,
+        v: difference_overflows(size, source, destination, difference),
+        c: cut(size, source) < cut(size, destination),
+    }
+}
+
+/// INC: one more; C stays. Of a byte the low byte of `number` is looked at alone.
+#[tactic(auto, unfolding(crate::specs::Results::inc_of))]
+pub fn inc(size: Size, number: u16, c: bool) -> (u16, Codes)
+    ensures value { result ≡ inc_of size number c }
+    ensures fits { Fits size result.0 }
+{
+    let sum = wrapped_sum(size, number, 1);
+    let codes = Codes {
+        n: is_negative(size, sum),
+        z: sum == 0,
+        v: sum_overflows(size, number, 1, sum),
+        c,
+    };
+    (sum, codes)
+}
+
+/// DEC: one less; C stays. Of a byte the low byte of `number` is looked at alone.
+#[tactic(auto, unfolding(crate::specs::Results::dec_of))]
+pub fn dec(size: Size, number: u16, c: bool) -> (u16, Codes)
+    ensures value { result ≡ dec_of size number c }
+    ensures fits { Fits size result.0 }
+{
+    let difference = wrapped_difference(size, number, 1);
+    let codes = Codes {
+        n: is_negative(size, difference),
+        z: difference == 0,
+        v: difference_overflows(size, number, 1, difference),
+        c,
+    };
+    (difference, codes)
+}
+
+/// NEG: 0 minus the operand. C is set unless the result is 0. Of a byte the low byte of `number` is looked at alone.
+#[tactic(auto, unfolding(crate::specs::Results::neg_of))]
+pub fn neg(size: Size, number: u16) -> (u16, Codes)
+    ensures value { result ≡ neg_of size number }
+    ensures fits { Fits size result.0 }
+{
+    let difference = wrapped_difference(size, 0, number);
+    let codes = Codes {
+        n: is_negative(size, difference),
+        z: difference == 0,
+        v: difference_overflows(size, 0, number, difference),
+        c: cut(size, number) != 0,
+    };
+    (difference, codes)
+}
+
+/// The number that C stands for in a sum.
+pub(crate) fn carry(c: bool) -> u16
+    ensures { result ≡ carry_of c }
+{
+    u16::from(c)
+}
+
+/// ADC: the operand plus C. Of a byte the low byte of `number` is looked at alone.
+#[tactic(auto, unfolding(crate::specs::Results::adc_of))]
+pub fn adc(size: Size, number: u16, c: bool) -> (u16, Codes)
+    ensures value { result ≡ adc_of size number c }
+    ensures fits { Fits size result.0 }
+{
+    let carry = carry(c);
+    let sum = wrapped_sum(size, number, carry);
+    let codes = Codes {
+        n: is_negative(size, sum),
+        z: sum == 0,
+        v: sum_overflows(size, number, carry, sum),
+        c: sum < cut(size, number),
+    };
+    (sum, codes)
+}
+
+/// SBC: the operand minus C. Of a byte the low byte of `number` is looked at alone.
+#[tactic(auto, unfolding(crate::specs::Results::sbc_of))]
+pub fn sbc(size: Size, number: u16, c: bool) -> (u16, Codes)
+    ensures value { result ≡ sbc_of size number c }
+    ensures fits { Fits size result.0 }
+{
+    let borrow = carry(c);
+    let difference = wrapped_difference(size, number, borrow);
+    let codes = Codes {
+        n: is_negative(size, difference),
+        z: difference == 0,
+        v: difference_overflows(size, number, borrow, difference),
+        c: cut(size, number) < borrow,
+    };
+    (difference, codes)
 }
 
 /// The codes of a result that clears V, with C as handed in: the result of MOV, BIT, BIC, BIS,
@@ -64,3 +208,20 @@ pub fn logic(size: Size, value: u16, c: bool) -> Codes
         c,
     }
 }
+
+/// The handbook's rules for the V and C of NEG, ADC and SBC, which look at the operand or the result
+/// alone, are those of the difference from 0, of the sum with C and of the difference with C.
+pub fn carry_rules()
+    ensures neg { (size : Size) (n : ℕ) → n < 65536 →
+        neg_of size n ≡ result_of size (pos 0 -ℤ sval size n) (pos 0 -ℤ pos (val size n)) }
+    ensures adc { (size : Size) (n : ℕ) (c : Bool) → n < 65536 →
+        adc_of size n c
+        ≡ result_of size
+        (sval size n +ℤ pos (carry_of c))
+        (pos (val size n) +ℤ pos (carry_of c)) }
+    ensures sbc { (size : Size) (n : ℕ) (c : Bool) → n < 65536 →
+        sbc_of size n c
+        ≡ result_of size
+        (sval size n -ℤ pos (carry_of c))
+        (pos (val size n) -ℤ pos (carry_of c)) }
+{}

@@ -10,17 +10,17 @@ new_machine kwords =
     record {
       turns = 0;
       hardware =
-        record {
-          processor =
-            record {
-              registers = record { general = replicate 6 0; kernel_sp = 0; user_sp = 0; pc = 0 };
-              status = new_status;
-              waiting = false;
-              halted = false;
-            };
-          management = record {};
-          bus = new_bus kwords;
-        };
+          record {
+            processor =
+                record {
+                  registers = record { general = replicate 6 0; kernel_sp = 0; user_sp = 0; pc = 0 };
+                  status = new_status;
+                  waiting = false;
+                  halted = false;
+                };
+            management = record {};
+            bus = new_bus kwords;
+          };
     }
 
 -- whether an even bus address has a word
@@ -42,12 +42,12 @@ unfoldable pub started : ℕ → HardwareState → HardwareState
 started pc h =
     record h {
       processor =
-        record h.processor {
-          registers = record h.processor.registers { pc = pc };
-          status = new_status;
-          waiting = false;
-          halted = false;
-        };
+          record h.processor {
+            registers = record h.processor.registers { pc = pc };
+            status = new_status;
+            waiting = false;
+            halted = false;
+          };
     }
 
 unfoldable pub start_of : ℕ → State → State

@@ -9,7 +9,10 @@ mod psw;
 mod tests;
 mod vector;
 
-pub use laws::{fields_stand_in_word, word_gives_fields, word_has_16_bits};
+pub use laws::{
+    fields_stand_in_word, joined_mode_has_both_bits, user_return_stays_in_user_mode,
+    word_gives_fields, word_has_16_bits,
+};
 pub use mode::Mode;
 pub use priority::Priority;
 pub use psw::Psw;

@@ -12,9 +12,8 @@ use crate::ending::{Cause, ending};
 use crate::settings::{Launch, settings};
 use p11_panel::{Panel, SessionFault, session};
 use std::fs::File;
-use std::io;
 use std::process::ExitCode;
-use std::env;
+use std::{env, io};
 
 fn main(rt: HostRuntime) -> ExitCode {
     let cause = match run(&rt) {

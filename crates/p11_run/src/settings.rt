@@ -14,6 +14,7 @@ pub struct Launch<'a> {
 }
 
 const MEMORY: u32 = 28;
+
 const LINES: u32 = 1024;
 
 /// A number that a 32-bit word holds. Whether a machine can have that size is judged later.

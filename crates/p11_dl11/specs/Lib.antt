@@ -1,0 +1,9 @@
+pub mod StatusRegister
+pub mod ReceiverState
+pub mod ReceiverEvents
+pub mod TransmitterState
+pub mod TransmitterEvents
+pub mod LineState
+pub mod LineEvents
+pub mod Addresses
+pub mod DueTurns

@@ -1,0 +1,58 @@
+-- What happens to the transmitter.
+use Rattle.std.specs.Prelude.{ℕ, ◌+◌, Bool, false, ◌==◌, ◌||◌, Option, Some, None, if◌then◌else◌}
+use Rattle.p11_dl11.specs.declared.transmitter.Sending.{Sending}
+use Rattle.p11_dl11.specs.ReceiverEvents.{character_turns}
+use Rattle.p11_dl11.specs.StatusRegister.{status_word, request_after_enable}
+use Rattle.p11_dl11.specs.TransmitterState.{TransmitterState, is_ready}
+
+-- a new machine's transmitter, and the state after INIT: ready, disabled, no request, a character being sent forgotten
+unfoldable pub new_transmitter : TransmitterState
+new_transmitter = record { enable = false; request = false; sending = None }
+
+-- the word of the transmitter status register
+abbrev pub transmitter_status : TransmitterState → ℕ
+transmitter_status t = status_word (is_ready t) t.enable
+
+-- a write of the transmitter status register with this enable
+unfoldable pub transmitter_after_enable : Bool → TransmitterState → TransmitterState
+transmitter_after_enable enable t =
+    record t { enable = enable; request = request_after_enable t.request t.enable (is_ready t) enable }
+
+-- what is being sent after a write of the buffer: while ready the character is typed a character's turns later, and
+-- else it takes the place of the one that is being sent, whose turn stays
+abbrev pub sending_after : Option Sending → ℕ → ℕ → Sending
+sending_after None turn character = record { character = character; due = turn + character_turns }
+sending_after (Some s) turn character = record { character = character; due = s.due }
+
+-- a write of the transmitter buffer in this turn
+unfoldable pub transmitter_after_character : ℕ → ℕ → TransmitterState → TransmitterState
+transmitter_after_character turn character t = record t { sending = Some (sending_after t.sending turn character) }
+
+-- the processor serves the transmitter's interrupt
+unfoldable pub transmitter_after_service : TransmitterState → TransmitterState
+transmitter_after_service t = record t { request = false }
+
+-- the character that is typed in this turn, if one is due in it
+abbrev pub typed_of : Option Sending → ℕ → Option ℕ
+typed_of None turn = None
+typed_of (Some s) turn = if s.due == turn then Some s.character else None
+
+unfoldable pub typed_in : ℕ → TransmitterState → Option ℕ
+typed_in turn t = typed_of t.sending turn
+
+-- a character has been typed: the transmitter is ready, and requests an interrupt where enabled
+abbrev pub transmitter_after_typing : Option ℕ → TransmitterState → TransmitterState
+transmitter_after_typing None t = t
+transmitter_after_typing (Some character) t = record t { request = t.request || t.enable; sending = None }
+
+-- the transmitter in this turn
+unfoldable pub transmitter_after_turn : ℕ → TransmitterState → TransmitterState
+transmitter_after_turn turn t = transmitter_after_typing (typed_of t.sending turn) t
+
+-- the turn in which a character is typed if nothing else happens
+abbrev pub due_of : Option Sending → Option ℕ
+due_of None = None
+due_of (Some s) = Some s.due
+
+unfoldable pub transmitter_due : TransmitterState → Option ℕ
+transmitter_due t = due_of t.sending

@@ -1,0 +1,8 @@
+pub mod Page
+pub mod Reference
+pub mod Register
+pub mod Management
+pub mod Translation
+pub mod Registers
+pub mod Instruction
+pub mod Laws

@@ -1,0 +1,152 @@
+ghost use Rattle.std.specs.Prelude.{◌≡◌, ◌%◌, ◌^◌, ◌<◌, true};
+ghost use Rattle.p11_kt11.specs.Reference.{any_cause, block_number, causes_of, forbids, is_absent, is_beyond, no_cause, no_page, page_number, physical, unmapped};
+
+use crate::page::{Access, Descriptor, Growth, Page};
+
+/// Whether a reference reads or writes.
+#[derive(Clone, Copy, Debug, PartialEq, Eq)]
+pub enum Kind {
+    Read,
+    Write,
+}
+
+/// A set of causes of an abort, as SR0 15:13 shows them.
+#[derive(Clone, Copy, Debug, PartialEq, Eq)]
+pub struct Causes {
+    /// The page gives no access, or the mode has no pages.
+    pub non_resident: bool,
+    /// The block is beyond the page's length.
+    pub page_length: bool,
+    /// A write to a page that is read only.
+    pub read_only: bool,
+}
+
+impl Causes {
+    #[tactic(auto, unfolding(crate::specs::Reference::no_cause))]
+    pub(crate) fn none() -> Self
+        ensures { result ≡ no_cause }
+    {
+        Causes {
+            non_resident: false,
+            page_length: false,
+            read_only: false,
+        }
+    }
+
+    /// The one cause against a reference in mode 01 or 10, which have no pages.
+    #[tactic(auto, unfolding(crate::specs::Reference::no_page, crate::specs::Reference::any_cause))]
+    pub(crate) fn no_page() -> Self
+        ensures value { result ≡ no_page }
+        ensures caused { any_cause result ≡ true }
+    {
+        Causes {
+            non_resident: true,
+            page_length: false,
+            read_only: false,
+        }
+    }
+
+    /// All the causes that hold against a reference to a block through a page.
+    #[tactic(auto, unfolding(crate::specs::Reference::causes_of))]
+    pub(crate) fn against(descriptor: Descriptor, block: u8, kind: Kind) -> Self
+        ensures { result ≡ causes_of descriptor block kind }
+    {
+        Causes {
+            non_resident: is_absent(descriptor.access),
+            page_length: is_beyond(descriptor.growth, descriptor.length, block),
+            read_only: forbids(descriptor.access, kind),
+        }
+    }
+
+    /// Whether there is a cause.
+    #[tactic(auto, unfolding(crate::specs::Reference::any_cause))]
+    pub(crate) fn any(self) -> bool
+        ensures { result ≡ any_cause self }
+    {
+        self.non_resident || self.page_length || self.read_only
+    }
+}
+
+/// What a reference gets in place of a physical address.
+#[derive(Clone, Copy, Debug, PartialEq, Eq)]
+pub struct Abort {
+    /// All the causes that hold, at least one.
+    pub causes: Causes,
+}
+
+/// ACF 00 and 10 abort every reference.
+#[tactic(auto, unfolding(crate::specs::Reference::is_absent))]
+fn is_absent(access: Access) -> bool
+    ensures { result ≡ is_absent access }
+{
+    match access {
+        Access::NonResident | Access::Unused => true,
+        Access::ReadOnly | Access::ReadWrite => false,
+    }
+}
+
+/// Whether a block is beyond a page's length.
+#[tactic(auto, unfolding(crate::specs::Reference::is_beyond))]
+fn is_beyond(growth: Growth, length: u8, block: u8) -> bool
+    ensures { result ≡ is_beyond growth length block }
+{
+    match growth {
+        Growth::Up => block > length,
+        Growth::Down => block < length,
+    }
+}
+
+/// ACF 01 aborts writes.
+#[tactic(auto, unfolding(crate::specs::Reference::forbids))]
+fn forbids(access: Access, kind: Kind) -> bool
+    ensures { result ≡ forbids access kind }
+{
+    match (access, kind) {
+        (Access::ReadOnly, Kind::Write) => true,
+        _ => false,
+    }
+}
+
+/// The page of a virtual address, bits 15:13.
+#[tactic(auto, unfolding(crate::specs::Reference::page_number))]
+pub(crate) fn page_number(address: u16) -> u8
+    ensures value { result ≡ page_number address }
+    ensures bound { result < 8 }
+{
+    (address >> 13) as u8
+}
+
+/// The block in the page of a virtual address, bits 12:6.
+#[tactic(auto, unfolding(crate::specs::Reference::block_number))]
+pub(crate) fn block_number(address: u16) -> u8
+    ensures value { result ≡ block_number address }
+    ensures bound { result < 128 }
+{
+    (address >> 6 & 0o177) as u8
+}
+
+/// The physical address of a virtual address through a page.
+#[tactic(auto, unfolding(crate::specs::Reference::physical))]
+pub(crate) fn physical(page: Page, address: u16) -> u32
+    ensures value { result ≡ physical page address }
+    ensures bound { result < 2 ^ 18 }
+    ensures parity { result % 2 ≡ address % 2 }
+{
+    let block = u32::from(page.address) + u32::from(block_number(address));
+    let displacement = u32::from(address & 0o77);
+    (block * 0o100 + displacement) & 0o777777
+}
+
+/// The physical address of a virtual address while mapping is off: the upper 8 KB are the I/O page.
+#[tactic(auto, unfolding(crate::specs::Reference::unmapped))]
+pub(crate) fn unmapped(address: u16) -> u32
+    ensures value { result ≡ unmapped address }
+    ensures bound { result < 2 ^ 18 }
+    ensures parity { result % 2 ≡ address % 2 }
+{
+    if address < 0o160000 {
+        u32::from(address)
+    } else {
+        u32::from(address) + 0o600000
+    }
+}

@@ -1,0 +1,119 @@
+ghost use Rattle.std.specs.Prelude.{◌≡◌, ◌≤◌, ◌<◌, ◌*◌, ◌/◌, ◌%◌, ◌^◌, ◌==◌, ◌&&◌, ◌||◌, not};
+ghost use Rattle.p11_kw11.specs.LineClock.{clock_after_service, clock_after_tick, clock_after_write, clock_word, flag_number, new_clock};
+
+use std::marker::Model;
+
+/// The place of the monitor bit in the status register.
+const MONITOR: u32 = 7;
+
+/// The place of the bit that enables interrupts.
+const ENABLE: u32 = 6;
+
+/// A KW11-L line clock. Its one register, the status register, shows the monitor bit in bit 7 and the interrupt enable
+/// in bit 6. It interrupts through vector 100 at level 6.
+#[derive(Debug, Drop)]
+pub struct Kw11 {
+    monitor: bool,
+    enable: bool,
+    request: bool,
+}
+
+impl Model for Kw11 {
+    ghost use Rattle.p11_kw11.specs.LineClock.{LineClock};
+
+    ghost Value = { LineClock };
+
+    ghost view = { λ k. record { monitor = k.monitor; enable = k.enable; request = k.request } };
+}
+
+/// The flag as a bit at this place.
+fn flag_bit(flag: bool, place: u32) -> u16
+    requires { place < 8 }
+    ensures value { result ≡ flag_number flag * 2 ^ place }
+    ensures bound { result ≤ 2 ^ place }
+{
+    if flag { 1 << place } else { 0 }
+}
+
+/// Whether the word's bit at this place is set.
+fn flag_at(word: u16, place: u32) -> bool
+    requires { place < 16 }
+    ensures { result ≡ (word / 2 ^ place % 2 == 1) }
+{
+    word >> place & 1 == 1
+}
+
+/// The request after a write that leaves the clock with this monitor bit and this enable.
+fn requests(requested: bool, was_enabled: bool, monitor: bool, enable: bool) -> bool
+    ensures { result ≡ (enable && (requested || (monitor && not was_enabled))) }
+{
+    enable && (requested || monitor && !was_enabled)
+}
+
+impl Kw11 {
+    /// The bus address of the status register.
+    pub const ADDRESS: u32 = 0o777546;
+
+    /// A new clock: monitor set, interrupts disabled.
+    #[tactic(auto, unfolding(crate::specs::LineClock::new_clock))]
+    pub fn new() -> Self
+        ensures { result ≡ new_clock }
+    {
+        Kw11 {
+            monitor: true,
+            enable: false,
+            request: false,
+        }
+    }
+
+    /// The word of the status register. Reading it changes nothing.
+    #[tactic(auto, unfolding(crate::specs::LineClock::clock_word))]
+    pub fn read(&self) -> u16
+        ensures { result ≡ clock_word self.now }
+    {
+        flag_bit(self.monitor, MONITOR) + flag_bit(self.enable, ENABLE)
+    }
+
+    /// Writes the status register: bit 6 is taken, and a 0 in bit 7 clears the monitor bit.
+    #[tactic(auto, unfolding(crate::specs::LineClock::clock_after_write))]
+    pub fn write(&mut self, word: u16)
+        ensures { self.new ≡ clock_after_write word self.old }
+    {
+        let was_enabled = self.enable;
+        self.monitor &= flag_at(word, MONITOR);
+        self.enable = flag_at(word, ENABLE);
+        self.request = requests(self.request, was_enabled, self.monitor, self.enable);
+    }
+
+    /// The line ticks.
+    #[tactic(auto, unfolding(crate::specs::LineClock::clock_after_tick))]
+    pub fn tick(&mut self)
+        ensures { self.new ≡ clock_after_tick self.old }
+    {
+        self.monitor = true;
+        self.request |= self.enable;
+    }
+
+    /// Whether an interrupt is requested.
+    pub fn request(&self) -> bool
+        ensures { result ≡ self.now.request }
+    {
+        self.request
+    }
+
+    /// The processor serves the interrupt, which drops the request.
+    #[tactic(auto, unfolding(crate::specs::LineClock::clock_after_service))]
+    pub fn ack(&mut self)
+        ensures { self.new ≡ clock_after_service self.old }
+    {
+        self.request = false;
+    }
+
+    /// INIT on the bus: as a new clock.
+    #[tactic(auto, unfolding(crate::specs::LineClock::new_clock))]
+    pub fn init(&mut self)
+        ensures { self.new ≡ new_clock }
+    {
+        *self = Kw11::new();
+    }
+}

@@ -1,0 +1,67 @@
+-- An RK05 drive with a pack on it: what the pack holds, and which sectors may be written.
+-- A pack has 203 cylinders of two tracks, one on each surface, and 12 sectors of 256 words on a track:
+-- 4,872 sectors of 512 bytes. Sector numbers count by sector, then by surface, then by cylinder.
+use Rattle.std.specs.Prelude.{◌≡◌, ℕ, ◌-◌, ◌*◌, ◌<◌, Bool, IsTrue, nat_eq, List, [], ◌∷◌, ◌++◌, length, take, drop, map, replicate, slice_set, slice_index_or, All, if◌then◌else◌}
+use Rattle.std.specs.List.{list_any, range_with_len, concat, IsDistinct}
+use Rattle.p11_overlay.specs.declared.geometry.TheConstants.{ALL_SECTORS, IMAGE_BYTES, SECTOR_BYTES}
+
+-- The bytes of each sector, the write-protect mark, and the numbers of the sectors that were written
+-- since the mount, each once, in the order of their first writes.
+pub record Contents : Type 0 where
+  pub sectors : List (List ℕ)
+  pub protected : Bool
+  pub changed : List ℕ
+
+-- The contents, and the numbers of the sectors that may be written without taking memory.
+-- The order of these means nothing: see `IsPrepared`.
+pub record DriveState : Type 0 where
+  pub contents : Contents
+  pub prepared : List ℕ
+
+-- a write of sector n takes no memory
+abbrev pub IsPrepared : DriveState → ℕ → Type 0
+IsPrepared drive n = IsTrue (list_any (nat_eq n) drive.prepared)
+
+-- sector n was written since the mount
+abbrev pub IsChanged : Contents → ℕ → Type 0
+IsChanged contents n = IsTrue (list_any (nat_eq n) contents.changed)
+
+-- the bytes of sector n
+abbrev pub sector_of : Contents → ℕ → List ℕ
+sector_of contents n = slice_index_or contents.sectors n []
+
+-- all sectors, one after another
+abbrev pub image_of : Contents → List ℕ
+image_of contents = concat contents.sectors
+
+-- an image's bytes, and zeros behind them up to the whole pack
+unfoldable pub filled : List ℕ → List ℕ
+filled image = image ++ replicate (IMAGE_BYTES - length image) 0
+
+-- the n-th 512 bytes
+abbrev pub sector_within : List ℕ → ℕ → List ℕ
+sector_within bytes n = take SECTOR_BYTES (drop (n * SECTOR_BYTES) bytes)
+
+-- the sectors that an image makes
+unfoldable pub sectors_of : List ℕ → List (List ℕ)
+sectors_of image = map (sector_within (filled image)) (range_with_len 0 ALL_SECTORS)
+
+-- a drive on which an image was mounted
+abbrev pub mounted : List ℕ → Bool → Contents
+mounted image protected = record { sectors = sectors_of image; protected = protected; changed = [] }
+
+-- the changed sectors after a write of sector n: a first write puts it last, a later one leaves the list
+abbrev pub changed_with : List ℕ → ℕ → List ℕ
+changed_with changed n = if list_any (nat_eq n) changed then changed else changed ++ n ∷ []
+
+-- a drive after a write of sector n
+abbrev pub written : Contents → ℕ → List ℕ → Contents
+written contents n bytes =
+    record { sectors = slice_set contents.sectors n bytes; protected = contents.protected; changed = changed_with contents.changed n }
+
+-- What every drive has: 4,872 sectors of 512 bytes, and each changed sector listed once.
+pub record IsWhole (contents : Contents) : Type 0 where
+  pub count : length contents.sectors ≡ ALL_SECTORS
+  pub bytes : All (λ sector. length sector ≡ SECTOR_BYTES) contents.sectors
+  pub numbers : All (λ n. n < ALL_SECTORS) contents.changed
+  pub once : IsDistinct nat_eq contents.changed

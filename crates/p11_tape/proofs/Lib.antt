@@ -1,0 +1,6 @@
+mod ZeroLemmas
+mod BlockLemmas
+mod FrontLemmas
+mod ReadLemmas
+mod LawLemmas
+mod WriterLemmas

@@ -1,0 +1,5 @@
+pub mod Block
+pub mod Tape
+pub mod Fault
+pub mod Writer
+pub mod Begins

@@ -1,0 +1,110 @@
+// A whole tape.
+ghost use Rattle.std.specs.Prelude.{◌≡◌, ◌≢◌, ℕ, ◌+◌, ◌<◌, ◌≤◌, ◌++◌, ◌⊎◌, List, Option, [], length, IfOk, IfErr, OnOk, MatchResult, Err};
+ghost use Rattle.std.specs.List.{enumerate_from};
+ghost use Rattle.p11_tape.specs.Block.{start_of};
+ghost use Rattle.p11_tape.specs.Tape.{Means, HasMeaning};
+ghost use Rattle.p11_tape.specs.Fault.{HasFault, fault};
+
+use crate::block::{after_zeros, next_block};
+use crate::bytes::TapeBytes;
+use crate::fault::{TapeFault, TapeFaultKind};
+use std::alloc::{AllocError, Allocator, Global};
+
+/// What a tape means.
+#[derive(Debug, Drop)]
+pub struct Tape<A: Allocator = Global> {
+    /// Its data bytes, each with its address, in tape order. A later byte for the same address comes later.
+    pub bytes: TapeBytes<A>,
+    /// Where the program on it starts, an even address, if it says so.
+    pub start: Option<u16>,
+}
+
+/// The start address that a last block's address gives: none if it is odd.
+fn start_at(address: u16) -> Option<u16>
+    ensures { result ≡ start_of address }
+{
+    if address % 2 == 0 {
+        Some(address)
+    } else {
+        None
+    }
+}
+
+/// Counts the data bytes of a tape, or finds its first fault. This takes no memory.
+fn check(tape: &[u8]) -> Result<usize, TapeFault>
+    ensures ok { IfOk result (λ count. (meaning : HasMeaning tape.now) × (length meaning.placed ≡ count)) }
+    ensures err { IfErr result (λ e. HasFault tape.now e) }
+{
+    let mut count = 0;
+    let mut rest = after_zeros(tape);
+    while !rest.is_empty() {
+        let block = next_block(tape, rest)?;
+        if block.bytes.is_empty() {
+            break;
+        }
+        count += block.bytes.len();
+        rest = after_zeros(block.after);
+    }
+    Ok(count)
+}
+
+/// Puts the data of a block, each byte with its address, behind the others.
+#[tactic(auto, using(crate::proofs::ReadLemmas::enumerate_more, std::proofs::lemmas::List::append_assoc))]
+fn place<A: Allocator>(
+    placed: &mut Vec<(u16, u8), A>,
+    address: u16,
+    bytes: &[u8],
+) -> Result<(), AllocError>
+    requires { address + length bytes.now ≤ 65536 }
+    ensures { OnOk result (placed.new.items ≡ placed.old.items ++ enumerate_from address bytes.now) }
+{
+    for (i, byte) in bytes.iter().enumerate() {
+        placed.push((address + i as u16, *byte))?;
+    }
+    Ok(())
+}
+
+/// Puts the data of a whole tape into an empty list, and answers its start address.
+fn fill<A: Allocator>(placed: &mut Vec<(u16, u8), A>, tape: &[u8]) -> Result<Option<u16>, TapeFault>
+    requires { placed.old.items ≡ [] }
+    ensures ok { IfOk result (λ start. Means tape.now placed.new.items start) }
+    ensures err { IfErr result (λ e. (e ≡ fault TapeFaultKind.Memory 0) ⊎ HasFault tape.now e) }
+{
+    let mut rest = after_zeros(tape);
+    while !rest.is_empty() {
+        let block = next_block(tape, rest)?;
+        if block.bytes.is_empty() {
+            return Ok(start_at(block.address));
+        }
+        place(placed, block.address, block.bytes)?;
+        rest = after_zeros(block.after);
+    }
+    Ok(None)
+}
+
+/// Reads a tape in the absolute binary format of the PDP-11 paper tape software, which its Absolute Loader
+/// takes: zeros, data blocks with zeros behind each, and perhaps a last block, which gives the start address. The
+/// answer is its data bytes, each with the 16-bit byte address that it is for, and the start address.
+///
+/// Bytes that are no such tape are refused as a whole, with the first fault and its offset in bytes. A tape is
+/// refused for want of memory alone, as `Memory` at 0.
+pub fn read_tape<A: Allocator>(alloc: A, tape: &[u8]) -> Result<Tape<A>, TapeFault>
+    // What is read is the meaning of a tape.
+    ensures read { IfOk result (λ t. Means tape.now t.bytes t.start) }
+    // What is a tape is read, unless memory runs out.
+    ensures only { (placed : List (ℕ × ℕ)) (start : Option ℕ) → Means tape.now placed start →
+        MatchResult result (λ t. (t.bytes ≡ placed) × (t.start ≡ start)) (λ e. e ≡ fault TapeFaultKind.Memory 0) }
+    // What is refused has that fault,
+    ensures refused { IfErr result (λ e. e.kind ≢ TapeFaultKind.Memory → HasFault tape.now e) }
+    // and what has a fault is refused with it.
+    ensures faulty { (e : TapeFault) → HasFault tape.now e → result ≡ Err e }
+    ensures memory { IfErr result (λ e. e.kind ≡ TapeFaultKind.Memory → (e.at ≡ 0) × HasMeaning tape.now) }
+{
+    let count = check(tape)?;
+    let mut placed = Vec::with_capacity(alloc, count)?;
+    let start = fill(&mut placed, tape)?;
+    Ok(Tape {
+        bytes: TapeBytes::from_vec(placed),
+        start,
+    })
+}
