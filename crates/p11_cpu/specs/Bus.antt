@@ -1,5 +1,5 @@
--- The Unibus: what stands at an 18-bit address. Memory lies from 0 up, and nothing else answers yet, the I/O page from
--- 760000 among it. A reference is made in a turn, whose number a device register may show.
+-- The Unibus: what stands at an 18-bit address. Memory lies from 0 up. Nothing else answers yet, and so nothing does on
+-- the I/O page, 760000 and up. A reference is made in a turn, whose number a device register may show.
 use Rattle.std.specs.Prelude.{ℕ, ◌*◌, ◌/◌, Bool, length, replicate, slice_index, slice_set, Result, Ok, Err, nat_lt, if◌then◌else◌}
 use Rattle.p11_cpu.specs.State.{BusState}
 use Rattle.p11_cpu.specs.declared.bus.TimeOut.{TimeOut}
@@ -20,9 +20,10 @@ see turn address bus = slice_index bus.memory (address / 2)
 unfoldable pub changed_at : ℕ → ℕ → ℕ → BusState → BusState
 changed_at turn address word bus = record bus { memory = slice_set bus.memory (address / 2) word }
 
--- a reference to an even address: the bus after it, and the word; or a time-out, and the bus as it was
+-- a read at an even address: the bus after it, and the word; or a time-out, and the bus as it was
 unfoldable pub read_of : ℕ → ℕ → BusState → BusState × Result ℕ TimeOut
 read_of turn address bus = if bus_answers address bus then (bus, Ok (see turn address bus)) else (bus, Err (record {}))
 
+-- a write at an even address: the bus after it; or a time-out, and the bus as it was
 unfoldable pub write_of : ℕ → ℕ → ℕ → BusState → BusState × Result (Unit {0}) TimeOut
 write_of turn address word bus = if bus_answers address bus then (changed_at turn address word bus, Ok tt) else (bus, Err (record {}))

@@ -37,7 +37,7 @@ deposit_of address word s =
     record s { hardware = record s.hardware { bus = changed_at s.turns address word s.hardware.bus } }
 
 -- START: a reset of the bus (of which memory alone is there, and stays), status 0, PC at the address, and no waiting or
--- halted mark
+-- halted mark; the other registers and the count of turns stay
 unfoldable pub started : ℕ → HardwareState → HardwareState
 started pc h =
     record h {

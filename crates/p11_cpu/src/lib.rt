@@ -11,14 +11,11 @@ mod machine;
 mod memory;
 mod operand;
 mod registers;
+#[cfg(test)]
+mod tests;
 mod trap;
 mod turn;
 
-pub use bus::{Bus, TimeOut};
-pub use hardware::Hardware;
 pub use machine::Machine;
-pub use memory::Memory;
-pub use operand::Place;
 pub use registers::Registers;
-pub use trap::Trap;
 pub use turn::Turn;
