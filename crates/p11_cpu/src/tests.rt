@@ -136,7 +136,7 @@ fn branches_go_by_the_codes(rt: HostRuntime) -> Result<(), Fail> {
     for (name, opcode, taken) in branches {
         for ((augend, addend, status), taken) in sums.iter().zip(taken) {
             // MOV #augend,R0; ADD #addend,R0; and the branch over one word
-            let words = [0o12700, *augend, 0o62700, *addend, opcode + 1];
+            let words = [0o12700, *augend, 0o62700, *addend, opcode | 1];
             let mut machine = machine_with(rt.alloc(), 0o1000, &words)?;
             assert_eq!(rt; run(&mut machine, 3), Some(Turn::Ran), "{name}");
             assert_eq!(rt; machine.status().word(), *status, "{name}");

@@ -1,0 +1,245 @@
+-- A controller is seen by its parts: one drive read, and one drive changed beside the registers.
+use Rattle.std.proofs.Common.{◌≡◌, ℕ, ◌+◌, ◌<◌, ◌≤◌, Bool, true, false, List, [], ◌∷◌, length, map, set, get_or, Option, Some, None, is_some, refl, sym, ap, subst, ◌∙◌, arith}
+use Rattle.std.specs.Prelude.{◌&&◌, Result, Ok, Err, OnOk, nat_lt, if◌then◌else◌, slice_set, slice_index_or}
+use Rattle.std.proofs.lemmas.Bool.{both_ways, lt-ltb, le-ltb}
+use Rattle.std.proofs.lemmas.List.{get_or_default, get_or-set_same, length-set, map-set}
+use Rattle.std.proofs.Math.Seq.{map-set_same}
+use Rattle.std.proofs.Math.ListN.{get_or-map}
+use Rattle.p11_rk11.specs.declared.controller.TheConstants.{DRIVES}
+use Rattle.p11_rk11.specs.declared.registers.Registers.{Registers}
+use Rattle.p11_rk11.specs.Acts.{sector_moved_on, moved_at}
+use Rattle.p11_rk11.specs.Memory.{Words}
+use Rattle.p11_rk11.specs.Place.{is_on_disk, sector_number}
+use Rattle.p11_rk11.specs.Functions.{is_write}
+use Rattle.p11_rk11.proofs.Words.{accepted}
+use Rattle.p11_rk11.specs.Registers.{ended, failed, is_due}
+use Rattle.p11_rk11.specs.Starts.{started_on}
+use Rattle.p11_rk11.specs.declared.errors.Failure.TheVariants.{NoDisk}
+use Rattle.p11_rk11.specs.Drives.{MountedDrive, MountedState}
+use Rattle.p11_rk11.specs.State.{Rk11State, heads_at, drive_of, selected, with_drive, with_part}
+use Rattle.p11_rk11.specs.View.{Rk11View, view_of, visible_drive, prepared_sectors, prepared_on, IsPreparedDrive, IsPreparedSector, IsPreparedFor, write_is_due, needs_memory, is_listed}
+
+-- what is seen of a drive that is there
+pub drive_seen : (r : Registers) (drives : List (Option MountedState)) (n : ℕ) (b d : Option MountedState) → n < DRIVES → length drives ≡ DRIVES
+    → b ≡ get_or drives n d → drive_of (view_of r drives).state n ≡ visible_drive b
+unfolding drive_of
+drive_seen r drives n b d lt len is =
+    let test : nat_lt n DRIVES ≡ true = lt-ltb n DRIVES lt in
+    let here : get_or drives n None ≡ b = get_or_default drives n None d (omega (arith, lt, len)) ∙ sym is in
+    ap (λ (t : Bool). if t then get_or (map visible_drive drives) n None else None) test
+    ∙ get_or-map visible_drive drives n None
+    ∙ ap visible_drive here
+
+-- and of one that isn't
+pub no_drive_seen : (s : Rk11State) (n : ℕ) → DRIVES ≤ n → drive_of s n ≡ None
+unfolding drive_of
+no_drive_seen s n le = ap (λ (t : Bool). if t then slice_index_or s.drives n None else None) (le-ltb n DRIVES le)
+
+-- a drive that was changed
+pub drive_changed : (r : Registers) (drives : List (Option MountedState)) (n : ℕ) (b : Option MountedState) → n < DRIVES
+    → (view_of r (set drives n b)).state ≡ with_drive (view_of r drives).state n (visible_drive b)
+unfolding with_drive
+drive_changed r drives n b lt =
+    let test : nat_lt n DRIVES ≡ true = lt-ltb n DRIVES lt in
+    let seen : List (Option MountedDrive) → Rk11State = λ list. record { registers = r; drives = list } in
+    ap seen (map-set visible_drive drives n b)
+    ∙ ap (λ (t : Bool). if t then seen (set (map visible_drive drives) n (visible_drive b)) else seen (map visible_drive drives)) (sym test)
+
+-- the registers and a drive that were changed together
+pub part_changed : (r r' : Registers) (drives : List (Option MountedState)) (n : ℕ) (b b' d : Option MountedState) (step : Registers → Option MountedDrive → Registers × Option MountedDrive)
+    → n < DRIVES → length drives ≡ DRIVES → b ≡ get_or drives n d → step r (visible_drive b) ≡ (r', visible_drive b')
+    → (view_of r' (set drives n b')).state ≡ with_part (view_of r drives).state n (step r (drive_of (view_of r drives).state n))
+unfolding with_part
+part_changed r r' drives n b b' d step lt len is done =
+    let s : Rk11State = (view_of r drives).state in
+    let after : step r (drive_of s n) ≡ (r', visible_drive b') = ap (λ d. step r d) (drive_seen r drives n b d lt len is) ∙ done in
+    ap (λ (t : Rk11State). record t { registers = r' }) (drive_changed r drives n b' lt)
+    ∙ ap (λ (p : Registers × Option MountedDrive). record (with_drive s n p.1) { registers = p.0 }) (sym after)
+
+-- where there is no such drive, the registers alone
+pub no_part_changed : (s : Rk11State) (r : Registers) (n : ℕ) (drive : Option MountedDrive) → DRIVES ≤ n
+    → record s { registers = r } ≡ with_part s n (r, drive)
+unfolding with_part with_drive
+no_part_changed s r n drive le =
+    ap (λ (t : Bool). record (if t then record s { drives = slice_set s.drives n drive } else s) { registers = r }) (sym (le-ltb n DRIVES le))
+
+-- what is prepared stays
+pub prepared_same : (drives : List (Option MountedState)) (n : ℕ) (b b' d : Option MountedState) → n < length drives
+    → b ≡ get_or drives n d → prepared_sectors b' ≡ prepared_sectors b
+    → map prepared_sectors (set drives n b') ≡ map prepared_sectors drives
+prepared_same drives n b b' d lt is same = map-set_same prepared_sectors drives n b' d (same ∙ ap prepared_sectors is)
+
+-- what is prepared on a drive that is there
+pub prepared_seen : (r : Registers) (drives : List (Option MountedState)) (n : ℕ) (b d : Option MountedState) → n < length drives
+    → b ≡ get_or drives n d → prepared_on (view_of r drives) n ≡ prepared_sectors b
+unfolding prepared_on
+prepared_seen r drives n b d lt is =
+    get_or-map prepared_sectors drives n None ∙ ap prepared_sectors (get_or_default drives n None d lt ∙ sym is)
+
+-- a drive and the controller are prepared alike
+pub prepared_within : (v : Rk11View) (r : Registers) (drives : List (Option MountedState)) (n : ℕ) (b d : Option MountedState) (sector : ℕ)
+    → view_of r drives ≡ v → n < DRIVES → length drives ≡ DRIVES → b ≡ get_or drives n d
+    → IsPreparedDrive (drive_of v.state n) (prepared_on v n) sector → IsPreparedDrive (visible_drive b) (prepared_sectors b) sector
+prepared_within v r drives n b d sector view lt len is h =
+    let P : Rk11View → Type 0 = λ v. IsPreparedDrive (drive_of v.state n) (prepared_on v n) sector in
+    let Q : Option MountedDrive → Type 0 = λ d. IsPreparedDrive d (prepared_on (view_of r drives) n) sector in
+    let R : List ℕ → Type 0 = λ l. IsPreparedDrive (visible_drive b) l sector in
+    subst R (prepared_seen r drives n b d (omega (arith, lt, len)) is) (subst Q (drive_seen r drives n b d lt len is) (subst P (sym view) h))
+
+pub prepared_whole : (r : Registers) (drives : List (Option MountedState)) (n : ℕ) (b d : Option MountedState) (sector : ℕ)
+    → n < DRIVES → length drives ≡ DRIVES → b ≡ get_or drives n d
+    → IsPreparedDrive (visible_drive b) (prepared_sectors b) sector
+    → IsPreparedDrive (drive_of (view_of r drives).state n) (prepared_on (view_of r drives) n) sector
+prepared_whole r drives n b d sector lt len is h =
+    let Q : Option MountedDrive → Type 0 = λ d. IsPreparedDrive d (prepared_on (view_of r drives) n) sector in
+    let R : List ℕ → Type 0 = λ l. IsPreparedDrive (visible_drive b) l sector in
+    subst Q (sym (drive_seen r drives n b d lt len is)) (subst R (sym (prepared_seen r drives n b d (omega (arith, lt, len)) is)) h)
+
+-- a moved sector changed the registers, a drive and memory
+pub sector_changed : (r r' : Registers) (drives : List (Option MountedState)) (n : ℕ) (b b' d : Option MountedState) (m m' : Words)
+    (step : Registers → Option MountedDrive → Words → Registers × Option MountedDrive × Words)
+    → n < DRIVES → length drives ≡ DRIVES → b ≡ get_or drives n d → step r (visible_drive b) m ≡ (r', visible_drive b', m')
+    → moved_at (view_of r drives).state n (step r (drive_of (view_of r drives).state n) m) ≡ ((view_of r' (set drives n b')).state, m')
+sector_changed r r' drives n b b' d m m' step lt len is done =
+    let s : Rk11State = (view_of r drives).state in
+    let after : step r (drive_of s n) m ≡ (r', visible_drive b', m') = ap (λ d. step r d m) (drive_seen r drives n b d lt len is) ∙ done in
+    let put : (view_of r' (set drives n b')).state ≡ with_part s n (r', visible_drive b') =
+    part_changed r r' drives n b b' d (λ _ _. (r', visible_drive b')) lt len is refl in
+    ap (λ moved. moved_at s n moved) after ∙ ap (λ (t : Rk11State). (t, m')) (sym put)
+
+-- where there is no such drive, the registers alone
+pub no_sector_changed : (s : Rk11State) (r : Registers) (n turn : ℕ) (m : Words) → DRIVES ≤ n → r ≡ ended s.registers
+    → moved_at s n (sector_moved_on turn s.registers (drive_of s n) m) ≡ (record s { registers = r }, m)
+no_sector_changed s r n turn m le is =
+    ap (λ drive. moved_at s n (sector_moved_on turn s.registers drive m)) (no_drive_seen s n le)
+    ∙ ap (λ (t : Rk11State). (t, m)) (sym (no_part_changed s (ended s.registers) n None le) ∙ ap (λ (q : Registers). record s { registers = q }) (sym is))
+
+-- The same for the drive that RKDA selects, whose number n the code has read.
+
+pub selected_changed : (r r' : Registers) (drives : List (Option MountedState)) (n : ℕ) (b b' d : Option MountedState) (step : Registers → Option MountedDrive → Registers × Option MountedDrive)
+    → n ≡ r.disk_address.drive → n < DRIVES → length drives ≡ DRIVES → b ≡ get_or drives n d → step r (visible_drive b) ≡ (r', visible_drive b')
+    → (view_of r' (set drives n b')).state ≡ with_part (view_of r drives).state r.disk_address.drive (step r (selected (view_of r drives).state))
+selected_changed r r' drives n b b' d step same lt len is done =
+    let s : Rk11State = (view_of r drives).state in
+    part_changed r r' drives n b b' d step lt len is done ∙ ap (λ (k : ℕ). with_part s k (step r (drive_of s k))) same
+
+pub none_selected : (s : Rk11State) (n : ℕ) → n ≡ s.registers.disk_address.drive → DRIVES ≤ n → selected s ≡ None
+none_selected s n same le = ap (λ (k : ℕ). drive_of s k) (sym same) ∙ no_drive_seen s n le
+
+pub none_started : (s : Rk11State) (r : Registers) (n turn : ℕ) → n ≡ s.registers.disk_address.drive → DRIVES ≤ n → r ≡ failed NoDisk s.registers
+    → record s { registers = r } ≡ with_part s s.registers.disk_address.drive (started_on turn s.registers (selected s))
+none_started s r n turn same le is =
+    no_part_changed s r n None le
+    ∙ ap (λ (k : ℕ). with_part s k (r, None)) same
+    ∙ ap (λ (q : Registers). with_part s s.registers.disk_address.drive (q, None)) is
+    ∙ ap (λ drive. with_part s s.registers.disk_address.drive (started_on turn s.registers drive)) (sym (none_selected s n same le))
+
+pub selected_moved : (r r' : Registers) (drives : List (Option MountedState)) (n : ℕ) (b b' d : Option MountedState) (m m' : Words)
+    (step : Registers → Option MountedDrive → Words → Registers × Option MountedDrive × Words)
+    → n ≡ r.disk_address.drive → n < DRIVES → length drives ≡ DRIVES → b ≡ get_or drives n d → step r (visible_drive b) m ≡ (r', visible_drive b', m')
+    → moved_at (view_of r drives).state r.disk_address.drive (step r (selected (view_of r drives).state) m) ≡ ((view_of r' (set drives n b')).state, m')
+selected_moved r r' drives n b b' d m m' step same lt len is done =
+    let s : Rk11State = (view_of r drives).state in
+    ap (λ (k : ℕ). moved_at s k (step r (drive_of s k) m)) (sym same) ∙ sector_changed r r' drives n b b' d m m' step lt len is done
+
+pub none_moved : (s : Rk11State) (r : Registers) (n turn : ℕ) (m : Words) → n ≡ s.registers.disk_address.drive → DRIVES ≤ n → r ≡ ended s.registers
+    → moved_at s s.registers.disk_address.drive (sector_moved_on turn s.registers (selected s) m) ≡ (record s { registers = r }, m)
+none_moved s r n turn m same le is =
+    ap (λ (k : ℕ). moved_at s k (sector_moved_on turn s.registers (drive_of s k) m)) (sym same) ∙ no_sector_changed s r n turn m le is
+
+pub selected_prepared : (v : Rk11View) (r : Registers) (drives : List (Option MountedState)) (n : ℕ) (b d : Option MountedState)
+    → view_of r drives ≡ v → n ≡ r.disk_address.drive → n < DRIVES → length drives ≡ DRIVES → b ≡ get_or drives n d
+    → IsPreparedSector v → IsPreparedDrive (visible_drive b) (prepared_sectors b) (sector_number r.disk_address)
+selected_prepared v r drives n b d view same lt len is h =
+    let w : Rk11View = view_of r drives in
+    let P : Rk11View → Type 0 = λ v. IsPreparedSector v in
+    let Q : ℕ → Type 0 = λ k. IsPreparedDrive (drive_of w.state k) (prepared_on w k) (sector_number r.disk_address) in
+    prepared_within w r drives n b d (sector_number r.disk_address) refl lt len is (subst Q (sym same) (subst P (sym view) h))
+
+pub prepared_selected : (r : Registers) (drives : List (Option MountedState)) (n : ℕ) (b d : Option MountedState)
+    → n ≡ r.disk_address.drive → n < DRIVES → length drives ≡ DRIVES → b ≡ get_or drives n d
+    → IsPreparedDrive (visible_drive b) (prepared_sectors b) (sector_number r.disk_address) → IsPreparedSector (view_of r drives)
+prepared_selected r drives n b d same lt len is h =
+    let w : Rk11View = view_of r drives in
+    let Q : ℕ → Type 0 = λ k. IsPreparedDrive (drive_of w.state k) (prepared_on w k) (sector_number r.disk_address) in
+    subst Q same (prepared_whole r drives n b d (sector_number r.disk_address) lt len is h)
+
+pub selected_seen : (r : Registers) (drives : List (Option MountedState)) (n : ℕ) (b d : Option MountedState) → n ≡ r.disk_address.drive → n < DRIVES → length drives ≡ DRIVES
+    → b ≡ get_or drives n d → selected (view_of r drives).state ≡ visible_drive b
+selected_seen r drives n b d same lt len is =
+    ap (λ (k : ℕ). drive_of (view_of r drives).state k) (sym same) ∙ drive_seen r drives n b d lt len is
+
+-- what is seen stays
+pub visible_same : (r : Registers) (drives : List (Option MountedState)) (n : ℕ) (b b' d : Option MountedState) → b ≡ get_or drives n d
+    → visible_drive b' ≡ visible_drive b → (view_of r (set drives n b')).state ≡ (view_of r drives).state
+visible_same r drives n b b' d is same =
+    ap (λ (list : List (Option MountedDrive)). let s : Rk11State = record { registers = r; drives = list } in s)
+    (map-set_same visible_drive drives n b' d (same ∙ ap visible_drive is))
+
+pub prepared_changed : (drives : List (Option MountedState)) (n : ℕ) (b : Option MountedState)
+    → map prepared_sectors (set drives n b) ≡ set (map prepared_sectors drives) n (prepared_sectors b)
+prepared_changed drives n b = map-set prepared_sectors drives n b
+
+pub prepared_after : (r : Registers) (drives : List (Option MountedState)) (n : ℕ) (b : Option MountedState)
+    → n ≡ r.disk_address.drive → n < DRIVES → length drives ≡ DRIVES
+    → IsPreparedDrive (visible_drive b) (prepared_sectors b) (sector_number r.disk_address) → IsPreparedSector (view_of r (set drives n b))
+prepared_after r drives n b same lt len h =
+    prepared_selected r (set drives n b) n b None same lt (length-set drives n b ∙ len) (sym (get_or-set_same drives n b None (omega (arith, lt, len)))) h
+
+pub none_prepared : (v : Rk11View) (n : ℕ) → n ≡ v.state.registers.disk_address.drive → DRIVES ≤ n → IsPreparedSector v
+none_prepared v n same le =
+    let P : Option MountedDrive → Type 0 = λ d. IsPreparedDrive d (prepared_on v v.state.registers.disk_address.drive) (sector_number v.state.registers.disk_address) in
+    subst P (sym (none_selected v.state n same le)) tt
+
+pub no_heads : (o : Option MountedDrive) → is_some o ≡ true → heads_at o ≡ None → ⊥
+no_heads None some none = cc some
+no_heads (Some d) some none = cc none
+
+pub on_ok : {P Q E : Type 0} (r : Result (Unit {0}) E) → (P → Q) → OnOk r P → OnOk r Q
+on_ok (Ok u) f p = f p
+on_ok (Err e) f p = p
+
+-- a test of three parts
+pub all_three : (a b c : Bool) → a ≡ true → b ≡ true → c ≡ true → a && b && c ≡ true
+all_three a b c ha hb hc = rw (ha, hb, hc) refl
+
+pub last_of_three : (a b c : Bool) → a && b && c ≡ true → c ≡ true
+last_of_three true true c h = h
+last_of_three true false c h = cc h
+last_of_three false b c h = cc h
+
+-- a drive that was changed by itself
+pub drive_mapped : (r : Registers) (drives : List (Option MountedState)) (n : ℕ) (b b' d : Option MountedState) (f : Option MountedDrive → Option MountedDrive)
+    → n < DRIVES → length drives ≡ DRIVES → b ≡ get_or drives n d → visible_drive b' ≡ f (visible_drive b)
+    → (view_of r (set drives n b')).state ≡ with_drive (view_of r drives).state n (f (drive_of (view_of r drives).state n))
+drive_mapped r drives n b b' d f lt len is done =
+    let s : Rk11State = (view_of r drives).state in
+    drive_changed r drives n b' lt ∙ ap (λ drive. with_drive s n drive) (done ∙ ap f (sym (drive_seen r drives n b d lt len is)))
+
+pub due_on_disk : (turn : ℕ) (s : Rk11State) → write_is_due turn s ≡ true → is_on_disk s.registers.disk_address ≡ true
+unfolding write_is_due
+due_on_disk turn s due =
+    last_of_three (is_due turn s.registers.transfer) (is_write s.registers.function) (is_on_disk s.registers.disk_address) due
+
+pub due_needless : (turn : ℕ) (s : Rk11State) → needs_memory turn s ≡ false → write_is_due turn s ≡ true → is_listed (selected s) (sector_number s.registers.disk_address) ≡ true
+unfolding needs_memory
+due_needless turn s needless due = accepted _ _ needless due
+
+-- what a due sector of a write finds
+pub prepared_to_move : (turn : ℕ) (v : Rk11View) → IsPreparedFor turn v → is_due turn v.state.registers.transfer ≡ true
+    → is_on_disk v.state.registers.disk_address ≡ true → is_write v.state.registers.function ≡ true → IsPreparedSector v
+unfolding IsPreparedFor write_is_due
+prepared_to_move turn v prepared due place write = prepared (all_three _ _ _ due write place)
+
+pub prepared_if_ok : {E : Type 0} (turn : ℕ) (v : Rk11View) (r : Result (Unit {0}) E) → OnOk r (IsPreparedSector v) → OnOk r (IsPreparedFor turn v)
+unfolding IsPreparedFor
+prepared_if_ok turn v (Ok u) p = λ due. p
+prepared_if_ok turn v (Err e) p = p
+
+pub not_due_prepared : (turn : ℕ) (v : Rk11View) → write_is_due turn v.state ≡ false → IsPreparedFor turn v
+unfolding IsPreparedFor
+not_due_prepared turn v none due = absurd (both_ways _ none due)
+
+pub due_prepared : (turn : ℕ) (v : Rk11View) → IsPreparedFor turn v → write_is_due turn v.state ≡ true → IsPreparedSector v
+unfolding IsPreparedFor
+due_prepared turn v prepared due = prepared due

@@ -1,0 +1,29 @@
+use Rattle.std.proofs.Common.{refl, sym, ap, ◌∙◌, subst, ◌≡◌, true}
+use Rattle.p11_rk11.specs.Place.{sector_number}
+use Rattle.p11_rk11.specs.State.{selected}
+use Rattle.p11_rk11.specs.View.{Rk11View, is_listed, view_of}
+use Rattle.p11_rk11.proofs.Parts.{visible_same, prepared_after, none_prepared, selected_seen, selected_prepared, on_ok}
+use Rattle.p11_rk11.proofs.controller.Rk11.prepare_drive.Goals as goal
+
+pub returns-then-n-lt-DRIVES-clause-state : goal.returns-then-n-lt-DRIVES-clause-state
+returns-then-n-lt-DRIVES-clause-state g c = rw (← c.self.view_is) (visible_same _ _ _ _ _ _ refl c.prepare.ensures.visible)
+
+pub returns-then-n-lt-DRIVES-clause-ok : goal.returns-then-n-lt-DRIVES-clause-ok
+returns-then-n-lt-DRIVES-clause-ok g c =
+    on_ok _ (prepared_after _ _ _ _ c.drive-n.ensures.value c.if-n-lt-DRIVES.true c.self.invariant) c.prepare.ensures.ok
+
+pub returns-then-n-lt-DRIVES-clause-listed : goal.returns-then-n-lt-DRIVES-clause-listed
+returns-then-n-lt-DRIVES-clause-listed g c listed =
+    let P : Rk11View → Type 0 = λ v. is_listed (selected v.state) (sector_number v.state.registers.disk_address) ≡ true in
+    c.prepare.ensures.listed
+    (ap (λ drive. is_listed drive (sector_number c.self.inside.registers.disk_address)) (sym (selected_seen _ _ _ _ _ c.drive-n.ensures.value c.if-n-lt-DRIVES.true c.self.invariant refl))
+    ∙ subst P (sym c.self.view_is) listed)
+
+pub returns-then-n-lt-DRIVES-clause-again : goal.returns-then-n-lt-DRIVES-clause-again
+returns-then-n-lt-DRIVES-clause-again g c prepared =
+    c.prepare.ensures.again
+    (selected_prepared _ _ _ _ _ _ c.self.view_is c.drive-n.ensures.value c.if-n-lt-DRIVES.true c.self.invariant refl prepared)
+
+pub returns-else-n-lt-DRIVES-clause-ok : goal.returns-else-n-lt-DRIVES-clause-ok
+returns-else-n-lt-DRIVES-clause-ok g c =
+    rw (← c.self.view_is) (none_prepared (view_of c.self.inside.registers c.self.inside.drives) _ c.drive-n.ensures.value c.if-n-lt-DRIVES.false)

@@ -1,0 +1,12 @@
+pub mod Acts
+pub mod Address
+pub mod Drives
+pub mod Errors
+pub mod Functions
+pub mod Memory
+pub mod Place
+pub mod Registers
+pub mod Sector
+pub mod Starts
+pub mod State
+pub mod View

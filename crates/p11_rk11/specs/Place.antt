@@ -1,0 +1,33 @@
+-- The disk address register, RKDA: a drive, and a place on it.
+use Rattle.std.specs.Prelude.{ℕ, ◌+◌, ◌*◌, ◌/◌, ◌%◌, Bool, true, false, ◌==◌, ◌&&◌, nat_lt, if◌then◌else◌}
+
+-- An RK05 has 203 cylinders of 2 surfaces of 12 sectors; the register has room for cylinders to 255
+-- and sectors to 15, and for drives to 7.
+pub record Place : Type 0 where
+  pub drive : ℕ
+  pub cylinder : ℕ
+  pub surface : ℕ
+  pub sector : ℕ
+
+-- RKDA: 3:0 sector, 4 surface, 12:5 cylinder, 15:13 drive
+unfoldable pub place_of_word : ℕ → Place
+place_of_word word =
+    record { drive = word / 0o20000; cylinder = word / 0o40 % 0o400; surface = word / 0o20 % 2; sector = word % 0o20 }
+
+unfoldable pub word_of_place : Place → ℕ
+word_of_place p = p.drive * 0o20000 + p.cylinder * 0o40 + p.surface * 0o20 + p.sector
+
+-- sectors are numbered 0 to 11 and cylinders 0 to 202
+unfoldable pub is_on_disk : Place → Bool
+is_on_disk p = nat_lt p.sector 12 && nat_lt p.cylinder 203
+
+-- the number of a sector on its drive, 0 to 4,871
+unfoldable pub sector_number : Place → ℕ
+sector_number p = (p.cylinder * 2 + p.surface) * 12 + p.sector
+
+-- the next sector of the track, else the first of the other surface, else the first of the next cylinder
+unfoldable pub next_place : Place → Place
+next_place p =
+    if nat_lt p.sector 11 then record p { sector = p.sector + 1 }
+    else (if p.surface == 0 then record p { surface = 1; sector = 0 }
+    else record p { cylinder = p.cylinder + 1; surface = 0; sector = 0 })

@@ -1,0 +1,60 @@
+-- The whole that contracts see of a controller.
+use Rattle.std.specs.Prelude.{◌≡◌, ℕ, Bool, true, false, IsTrue, ◌==◌, ◌&&◌, not, nat_eq, List, [], Option, Some, None, map, option_map, slice_index_or}
+use Rattle.std.specs.List.{list_any}
+use Rattle.p11_overlay.specs.Drive.{Contents, DriveState}
+use Rattle.p11_rk11.specs.declared.registers.Registers.{Registers}
+use Rattle.p11_rk11.specs.Drives.{MountedDrive, MountedState}
+use Rattle.p11_rk11.specs.Functions.{is_write}
+use Rattle.p11_rk11.specs.Place.{is_on_disk, sector_number}
+use Rattle.p11_rk11.specs.Registers.{is_due}
+use Rattle.p11_rk11.specs.State.{Rk11State, selected}
+
+-- The state, and beside it for each drive the sectors that may be written without taking memory.
+pub record Rk11View : Type 0 where
+  pub state : Rk11State
+  pub prepared : List (List ℕ)
+
+abbrev pub visible_drive : Option MountedState → Option MountedDrive
+visible_drive None = None
+visible_drive (Some drive) = Some drive.visible
+
+abbrev pub prepared_sectors : Option MountedState → List ℕ
+prepared_sectors None = []
+prepared_sectors (Some drive) = drive.prepared
+
+-- what is prepared on drive n; nothing on a drive that isn't there
+unfoldable pub prepared_on : Rk11View → ℕ → List ℕ
+prepared_on v n = slice_index_or v.prepared n []
+
+abbrev pub view_of : Registers → List (Option MountedState) → Rk11View
+view_of registers drives =
+    record { state = record { registers = registers; drives = map visible_drive drives }; prepared = map prepared_sectors drives }
+
+-- what a drive holds that is lent out
+abbrev pub contents_lent : Option DriveState → Option Contents
+contents_lent None = None
+contents_lent (Some drive) = Some drive.contents
+
+-- whether a disk write's sector is due in a turn
+unfoldable pub write_is_due : ℕ → Rk11State → Bool
+write_is_due turn s = is_due turn s.registers.transfer && is_write s.registers.function && is_on_disk s.registers.disk_address
+
+-- Prepared for a turn: the drive is prepared for a disk write's sector that is due in it.
+abbrev pub IsPreparedDrive : Option MountedDrive → List ℕ → ℕ → Type 0
+IsPreparedDrive None sectors n = Unit {0}
+IsPreparedDrive (Some drive) sectors n = IsTrue (list_any (nat_eq n) sectors)
+
+abbrev pub IsPreparedSector : Rk11View → Type 0
+IsPreparedSector v =
+    IsPreparedDrive (selected v.state) (prepared_on v v.state.registers.disk_address.drive) (sector_number v.state.registers.disk_address)
+
+unfoldable pub IsPreparedFor : ℕ → Rk11View → Type 0
+IsPreparedFor turn v = write_is_due turn v.state ≡ true → IsPreparedSector v
+
+abbrev pub is_listed : Option MountedDrive → ℕ → Bool
+is_listed None n = true
+is_listed (Some drive) n = list_any (nat_eq n) drive.contents.changed
+
+-- whether a turn's acts may need memory: a disk write's sector is due that isn't among the changed ones
+unfoldable pub needs_memory : ℕ → Rk11State → Bool
+needs_memory turn s = write_is_due turn s && not (is_listed (selected s) (sector_number s.registers.disk_address))

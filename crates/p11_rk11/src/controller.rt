@@ -1,0 +1,464 @@
+//! The controller with its drives.
+ghost use Rattle.std.specs.Prelude.{◌≡◌, ℕ, ◌<◌, ◌≤◌, ◌^◌, ◌+◌, ◌*◌, Some, None, is_some, IsSome, true, false, not, OnOk, OnErr, IsOk, option_map, slice_set, slice_index_or, option_copied, []};
+ghost use Rattle.p11_rk11.specs.Acts.{act_of, sector_moved_on, moved_at, transfer_act, due_sector_moved, seek_act, seeks_act};
+ghost use Rattle.p11_rk11.specs.Functions.{is_write};
+ghost use Rattle.p11_rk11.specs.Place.{is_on_disk, sector_number};
+ghost use Rattle.p11_rk11.specs.Registers.{cleared_registers};
+ghost use Rattle.p11_rk11.specs.Starts.{register_written, control_written, value_written, gone, function_of_go, started_on};
+ghost use Rattle.p11_rk11.specs.State.{new_rk11, register_word, drive_of, selected, with_drive, with_part, due_of, due_among, seek_due, is_busy, contents_of, heads_at, fresh_drive, init_of, all_stopped, stopped, acknowledged, status_of, earlier};
+ghost use Rattle.p11_rk11.specs.Registers.{is_due};
+
+use crate::bay;
+use crate::errors::Failure;
+use crate::memory::WordMemory;
+use crate::mounted::Mounted;
+use crate::register::Register;
+use crate::registers::{Registers, is_due};
+use p11_overlay::Drive;
+use std::alloc::{AllocError, Allocator, Global};
+use std::marker::Model;
+
+/// The number of drives. Their numbers begin with 0.
+pub const DRIVES: usize = 2;
+
+/// Where the heads of a drive are.
+#[derive(Clone, Copy, Debug, PartialEq, Eq)]
+pub struct Heads {
+    /// The cylinder, 0 to 202.
+    pub cylinder: u8,
+    /// The turn in which a seek is done, if one is under way.
+    pub due: Option<u64>,
+}
+
+/// The RK11 disk controller with its drives.
+#[derive(Drop)]
+pub struct Rk11<A: Allocator = Global> {
+    registers: Registers,
+    drives: [Option<Mounted<A>>; DRIVES],
+}
+
+impl<A: Allocator> Model for Rk11<A> {
+    ghost use Rattle.std.specs.Prelude.{◌≡◌, length};
+    ghost use Rattle.p11_rk11.specs.declared.controller.TheConstants.{DRIVES};
+    ghost use Rattle.p11_rk11.specs.View.{Rk11View, view_of};
+
+    ghost Value = { Rk11View };
+
+    ghost view = { λ c. view_of c.registers c.drives };
+
+    ghost invariant = { λ c. length c.drives ≡ DRIVES };
+}
+
+impl<A: Allocator> Rk11<A> {
+    ghost use Rattle.p11_rk11.specs.View.{IsPreparedFor, IsPreparedSector, needs_memory, write_is_due, contents_lent, is_listed};
+
+    /// A controller with no drive mounted.
+    #[tactic(auto, unfolding(crate::specs::State::new_rk11))]
+    pub fn new() -> Self
+        ensures { result.state ≡ new_rk11 }
+    {
+        Rk11 {
+            registers: Registers::cleared(),
+            drives: [None, None],
+        }
+    }
+
+    /// The word that a register shows in a turn.
+    #[tactic(auto, unfolding(crate::specs::State::register_word))]
+    pub fn read(&self, turn: u64, register: Register) -> u16
+        ensures { result ≡ register_word turn register self.now.state }
+    {
+        match register {
+            Register::DriveStatus => self.drive_status(turn),
+            Register::Error => self.registers.errors.word(),
+            Register::ControlStatus => self.registers.control_word(),
+            Register::WordCount => self.registers.word_count,
+            Register::BusAddress => self.registers.bus_address.low,
+            Register::DiskAddress => self.registers.disk_address.word(),
+            Register::DataBuffer => 0,
+        }
+    }
+
+    /// RKDS as a word.
+    fn drive_status(&self, turn: u64) -> u16
+        ensures { result ≡ self.now.state.registers.finished_seek * 0o20000 + status_of turn self.now.state.registers.disk_address.sector (selected self.now.state) }
+    {
+        let status = self.selected_status(turn);
+        u16::from(self.registers.finished_seek.number()) * 0o20000 + status
+    }
+
+    /// RKDS but for its bits 15:13.
+    fn selected_status(&self, turn: u64) -> u16
+        ensures value { result ≡ status_of turn self.now.state.registers.disk_address.sector (selected self.now.state) }
+        ensures bound { result < 0o20000 }
+    {
+        let n = self.registers.disk_address.drive();
+        if n < DRIVES {
+            bay::status(&self.drives[n], turn, self.registers.disk_address.sector())
+        } else {
+            0
+        }
+    }
+
+    /// Writes a register in a turn.
+    #[tactic(auto, unfolding(crate::specs::Starts::register_written))]
+    pub fn write(&mut self, turn: u64, register: Register, word: u16)
+        requires { turn ≤ 2 ^ 62 }
+        ensures state { self.new.state ≡ register_written turn register word self.old.state }
+        ensures prepared { self.new.prepared ≡ self.old.prepared }
+    {
+        match register {
+            Register::ControlStatus => self.write_control(turn, word),
+            Register::WordCount | Register::BusAddress | Register::DiskAddress => {
+                self.write_value(register, word);
+            }
+            Register::DriveStatus | Register::Error | Register::DataBuffer => {}
+        }
+    }
+
+    /// Writes RKWC, RKBA or RKDA, while ready.
+    #[tactic(auto, unfolding(crate::specs::Starts::value_written))]
+    fn write_value(&mut self, register: Register, word: u16)
+        ensures state { self.new.state ≡ value_written register word self.old.state }
+        ensures prepared { self.new.prepared ≡ self.old.prepared }
+    {
+        if self.registers.is_ready() {
+            self.registers.set(register, word);
+        }
+    }
+
+    /// Writes RKCS.
+    #[tactic(auto, unfolding(crate::specs::Starts::control_written))]
+    fn write_control(&mut self, turn: u64, word: u16)
+        requires { turn ≤ 2 ^ 62 }
+        ensures state { self.new.state ≡ control_written turn word self.old.state }
+        ensures prepared { self.new.prepared ≡ self.old.prepared }
+    {
+        let rises = self.registers.take_enable(word);
+        if !self.registers.is_ready() {
+            return;
+        }
+        self.registers.take_control(word);
+        if word & 1 == 1 {
+            self.go(turn);
+        } else if rises {
+            self.registers.raise_request();
+        }
+    }
+
+    /// GO, while ready.
+    #[tactic(auto, unfolding(crate::specs::Starts::gone))]
+    fn go(&mut self, turn: u64)
+        requires { turn ≤ 2 ^ 62 }
+        ensures state { self.new.state ≡ gone turn self.old.state }
+        ensures prepared { self.new.prepared ≡ self.old.prepared }
+    {
+        if self.registers.function.is_reset() {
+            self.registers = Registers::cleared();
+        } else {
+            self.registers.clear_at_go();
+            self.start(turn);
+        }
+    }
+
+    /// Begins one of the functions 1 to 7, if no check holds.
+    #[tactic(auto, unfolding(crate::specs::Starts::function_of_go))]
+    fn start(&mut self, turn: u64)
+        requires { turn ≤ 2 ^ 62 }
+        ensures state { self.new.state ≡ function_of_go turn self.old.state }
+        ensures prepared { self.new.prepared ≡ self.old.prepared }
+    {
+        if self.registers.format {
+            self.registers.fail(Failure::Programming);
+            return;
+        }
+        self.start_on(turn);
+    }
+
+    /// Begins a function on the selected drive.
+    fn start_on(&mut self, turn: u64)
+        requires { turn ≤ 2 ^ 62 }
+        ensures state { self.new.state ≡ with_part self.old.state self.old.state.registers.disk_address.drive (started_on turn self.old.state.registers (selected self.old.state)) }
+        ensures prepared { self.new.prepared ≡ self.old.prepared }
+    {
+        let n = self.registers.disk_address.drive();
+        if n < DRIVES {
+            bay::start(&mut self.drives[n], turn, &mut self.registers);
+        } else {
+            self.registers.fail(Failure::NoDisk);
+        }
+    }
+
+    /// Finds the memory that the acts of a turn may need: for the sector of a disk write that is due in it.
+    /// An `Err` says that there was no memory.
+    pub fn prepare(&mut self, turn: u64) -> Result<(), AllocError>
+        ensures state { self.new.state ≡ self.old.state }
+        ensures ok { OnOk result (IsPreparedFor turn self.new) }
+        ensures err { OnErr result (self.new ≡ self.old) }
+        ensures needless { needs_memory turn self.old.state ≡ false → IsOk result }
+        ensures again { IsPreparedFor turn self.old → IsOk result }
+    {
+        if !self.writes_in(turn) {
+            return Ok(());
+        }
+        self.prepare_drive()
+    }
+
+    /// Finds the memory for a write of the sector at RKDA.
+    fn prepare_drive(&mut self) -> Result<(), AllocError>
+        requires { is_on_disk self.old.state.registers.disk_address ≡ true }
+        ensures state { self.new.state ≡ self.old.state }
+        ensures ok { OnOk result (IsPreparedSector self.new) }
+        ensures err { OnErr result (self.new ≡ self.old) }
+        ensures listed { is_listed (selected self.old.state) (sector_number self.old.state.registers.disk_address) ≡ true → IsOk result }
+        ensures again { IsPreparedSector self.old → IsOk result }
+    {
+        let n = self.registers.disk_address.drive();
+        if n < DRIVES {
+            bay::prepare(&mut self.drives[n], self.registers.disk_address)
+        } else {
+            Ok(())
+        }
+    }
+
+    /// What the controller does in a turn: the transfer moves its sector where one is due, and then
+    /// the seeks that are due finish, by number of their drives.
+    #[tactic(auto, unfolding(crate::specs::Acts::act_of))]
+    pub fn act<M: WordMemory>(&mut self, turn: u64, memory: &mut M)
+        requires turn { turn ≤ 2 ^ 62 }
+        requires prepared { IsPreparedFor turn self.old }
+        requires room { 256 ≤ M.room memory.old }
+        ensures { act_of turn self.old.state (M.words memory.old) ≡ (self.new.state, M.words memory.new) }
+    {
+        self.move_due(turn, memory);
+        self.finish_seeks(turn);
+    }
+
+    /// Moves a transfer's sector, if one is due.
+    #[tactic(auto, unfolding(crate::specs::Acts::transfer_act))]
+    fn move_due<M: WordMemory>(&mut self, turn: u64, memory: &mut M)
+        requires turn { turn ≤ 2 ^ 62 }
+        requires prepared { IsPreparedFor turn self.old }
+        requires room { 256 ≤ M.room memory.old }
+        ensures { transfer_act turn self.old.state (M.words memory.old) ≡ (self.new.state, M.words memory.new) }
+    {
+        if is_due(turn, self.transfer_due()) {
+            self.move_sector(turn, memory);
+        }
+    }
+
+    /// Moves the due sector of the transfer.
+    #[tactic(auto, unfolding(crate::specs::Acts::due_sector_moved))]
+    fn move_sector<M: WordMemory>(&mut self, turn: u64, memory: &mut M)
+        requires turn { turn ≤ 2 ^ 62 }
+        requires due { is_due turn self.old.state.registers.transfer ≡ true }
+        requires prepared { IsPreparedFor turn self.old }
+        requires room { 256 ≤ M.room memory.old }
+        ensures { due_sector_moved turn self.old.state (M.words memory.old) ≡ (self.new.state, M.words memory.new) }
+    {
+        if self.registers.disk_address.is_on_disk() {
+            self.move_on(turn, memory);
+        } else {
+            self.registers.end();
+        }
+    }
+
+    /// Moves the due sector of the selected drive.
+    fn move_on<M: WordMemory>(&mut self, turn: u64, memory: &mut M)
+        requires turn { turn ≤ 2 ^ 62 }
+        requires place { is_on_disk self.old.state.registers.disk_address ≡ true }
+        requires prepared { is_write self.old.state.registers.function ≡ true → IsPreparedSector self.old }
+        requires room { 256 ≤ M.room memory.old }
+        ensures { moved_at self.old.state self.old.state.registers.disk_address.drive (sector_moved_on turn self.old.state.registers (selected self.old.state) (M.words memory.old)) ≡ (self.new.state, M.words memory.new) }
+    {
+        let n = self.registers.disk_address.drive();
+        if n < DRIVES {
+            bay::move_sector(&mut self.drives[n], turn, &mut self.registers, memory);
+        } else {
+            self.registers.end();
+        }
+    }
+
+    /// Finishes the seeks that are due, by number of their drives.
+    fn finish_seeks(&mut self, turn: u64)
+        ensures { self.new.state ≡ seeks_act turn DRIVES self.old.state }
+    {
+        for n in 0..DRIVES {
+            self.finish_seek(turn, n);
+        }
+    }
+
+    /// Finishes the seek of a drive, if one is due.
+    #[tactic(auto, unfolding(crate::specs::Acts::seek_act))]
+    fn finish_seek(&mut self, turn: u64, n: usize)
+        requires { n < DRIVES }
+        ensures { self.new.state ≡ seek_act turn n self.old.state }
+    {
+        bay::finish_seek(&mut self.drives[n], turn, n as u8, &mut self.registers);
+    }
+
+    /// The earliest turn in which the transfer or a seek acts, if one is under way.
+    #[tactic(auto, unfolding(crate::specs::State::due_of))]
+    pub fn due(&self) -> Option<u64>
+        ensures { result ≡ due_of self.now.state }
+    {
+        let mut due = self.transfer_due();
+        for n in 0..DRIVES {
+            due = earlier(due, self.seek_due(n));
+        }
+        due
+    }
+
+    /// The turn in which the sector of a running transfer is due.
+    pub fn transfer_due(&self) -> Option<u64>
+        ensures { result ≡ self.now.state.registers.transfer }
+    {
+        self.registers.transfer
+    }
+
+    /// Whether the controller asks for an interrupt.
+    pub fn request(&self) -> bool
+        ensures { result ≡ self.now.state.registers.request }
+    {
+        self.registers.request
+    }
+
+    /// The service of the request begins, which drops it.
+    #[tactic(auto, unfolding(crate::specs::State::acknowledged))]
+    pub fn ack(&mut self)
+        ensures state { self.new.state ≡ acknowledged self.old.state }
+        ensures prepared { self.new.prepared ≡ self.old.prepared }
+    {
+        self.registers.drop_request();
+    }
+
+    /// Mounts a pack on a drive, with the heads at cylinder 0.
+    pub fn mount(&mut self, n: usize, drive: Drive<A>)
+        requires exists { n < DRIVES }
+        requires empty { is_some (drive_of self.old.state n) ≡ false }
+        ensures state { self.new.state ≡ with_drive self.old.state n (Some (fresh_drive drive.contents)) }
+        ensures prepared { self.new.prepared ≡ slice_set self.old.prepared n drive.prepared }
+    {
+        self.put(n, Mounted::new(drive));
+    }
+
+    /// Puts a pack with its heads on a drive.
+    #[tactic(auto, unfolding(crate::specs::State::with_drive))]
+    fn put(&mut self, n: usize, mounted: Mounted<A>)
+        requires { n < DRIVES }
+        ensures state { self.new.state ≡ with_drive self.old.state n (Some mounted.visible) }
+        ensures prepared { self.new.prepared ≡ slice_set self.old.prepared n mounted.prepared }
+    {
+        self.drives[n] = Some(mounted);
+    }
+
+    /// Takes the pack off a drive and drops it.
+    #[tactic(auto, unfolding(crate::specs::State::with_drive))]
+    pub fn unmount(&mut self, n: usize)
+        requires exists { n < DRIVES }
+        requires mounted { is_some (drive_of self.old.state n) ≡ true }
+        requires idle { is_busy n self.old.state ≡ false }
+        ensures state { self.new.state ≡ with_drive self.old.state n None }
+        ensures prepared { self.new.prepared ≡ slice_set self.old.prepared n [] }
+    {
+        self.drives[n] = None;
+    }
+
+    /// Whether a drive seeks or has the running transfer on it.
+    #[tactic(auto, unfolding(crate::specs::State::is_busy))]
+    pub fn busy(&self, n: usize) -> bool
+        ensures { result ≡ is_busy n self.now.state }
+    {
+        if self.seek_due(n).is_some() {
+            return true;
+        }
+        if self.transfer_due().is_none() {
+            return false;
+        }
+        self.registers.disk_address.drive() == n
+    }
+
+    /// The pack of a drive, if one is mounted.
+    pub fn drive(&self, n: usize) -> Option<&Drive<A>>
+        ensures contents { contents_lent (option_copied result) ≡ contents_of (drive_of self.now.state n) }
+        ensures mounted { is_some result ≡ is_some (drive_of self.now.state n) }
+    {
+        if n < DRIVES {
+            bay::drive(&self.drives[n])
+        } else {
+            None
+        }
+    }
+
+    /// Where the heads of a mounted drive are.
+    pub fn heads(&self, n: usize) -> Heads
+        requires exists { n < DRIVES }
+        requires mounted { is_some (drive_of self.now.state n) ≡ true }
+        ensures { Some result ≡ heads_at (drive_of self.now.state n) }
+    {
+        match bay::heads(&self.drives[n]) {
+            Some(heads) => heads,
+            None => unreachable!(),
+        }
+    }
+
+    /// INIT: clears the registers, and ends the transfer and all seeks; the packs stay, and so do the heads
+    /// where they were.
+    #[tactic(auto, unfolding(crate::specs::State::init_of))]
+    pub fn init(&mut self)
+        ensures state { self.new.state ≡ init_of self.old.state }
+        ensures prepared { self.new.prepared ≡ self.old.prepared }
+    {
+        for n in 0..DRIVES {
+            self.stop(n);
+        }
+        self.registers = Registers::cleared();
+    }
+
+    /// Ends the seek of a drive.
+    fn stop(&mut self, n: usize)
+        requires { n < DRIVES }
+        ensures state { self.new.state ≡ with_drive self.old.state n (stopped (drive_of self.old.state n)) }
+        ensures prepared { self.new.prepared ≡ self.old.prepared }
+    {
+        bay::stop(&mut self.drives[n]);
+    }
+
+    /// Whether a disk write's sector is due in a turn.
+    #[tactic(auto, unfolding(crate::specs::View::write_is_due))]
+    fn writes_in(&self, turn: u64) -> bool
+        ensures { result ≡ write_is_due turn self.now.state }
+    {
+        if !is_due(turn, self.transfer_due()) {
+            return false;
+        }
+        if !self.registers.function.is_write() {
+            return false;
+        }
+        self.registers.disk_address.is_on_disk()
+    }
+
+    /// The due turn of a drive's seek.
+    #[tactic(auto, unfolding(crate::specs::State::seek_due))]
+    fn seek_due(&self, n: usize) -> Option<u64>
+        ensures { result ≡ seek_due (drive_of self.now.state n) }
+    {
+        if n < DRIVES {
+            bay::seek_due(&self.drives[n])
+        } else {
+            None
+        }
+    }
+}
+
+/// The earlier of two due turns.
+#[tactic(auto, unfolding(crate::specs::State::earlier))]
+fn earlier(one: Option<u64>, other: Option<u64>) -> Option<u64>
+    ensures { result ≡ earlier one other }
+{
+    match (one, other) {
+        (None, due) => due,
+        (Some(due), None) => Some(due),
+        (Some(a), Some(b)) => Some(a.min(b)),
+    }
+}

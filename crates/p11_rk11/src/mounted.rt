@@ -1,0 +1,286 @@
+//! A drive with its pack and its heads.
+ghost use Rattle.std.specs.Prelude.{◌≡◌, ℕ, ◌+◌, ◌<◌, ◌≤◌, ◌^◌, Some, None, true, false, IsTrue, IsOk, OnOk, OnErr, nat_eq};
+ghost use Rattle.std.specs.List.{list_any};
+ghost use Rattle.p11_rk11.specs.Drives.{MountedDrive, MountedState};
+ghost use Rattle.p11_rk11.specs.Acts.{contents_moved, drive_moved, memory_moved, differs, is_refused, sector_moved, arrived, addresses};
+ghost use Rattle.p11_rk11.specs.Functions.{is_write, uses_memory};
+ghost use Rattle.p11_rk11.specs.Memory.{all_held};
+ghost use Rattle.p11_rk11.specs.Registers.{words_moved};
+ghost use Rattle.p11_rk11.specs.Place.{is_on_disk, sector_number};
+ghost use Rattle.p11_rk11.specs.Starts.{drive_check, seeking, locked, drive_begun, registers_begun, started, arrival};
+ghost use Rattle.p11_rk11.specs.State.{drive_status, turn_of, heads_of, fresh_drive};
+
+use crate::controller::Heads;
+use crate::errors::{Failure, flag};
+use crate::function::Function;
+use crate::memory::WordMemory;
+use crate::place::DiskAddress;
+use crate::registers::Registers;
+use crate::sector::{bytes_of, words_of};
+use p11_overlay::Drive;
+use std::alloc::{AllocError, Allocator, Global};
+use std::marker::Model;
+
+/// A seek under way.
+#[derive(Clone, Copy, Debug, PartialEq, Eq)]
+pub struct PendingSeek {
+    /// The turn in which the heads arrive.
+    pub due: u64,
+    /// The cylinder where they go.
+    pub cylinder: u8,
+}
+
+/// A drive with its pack and its heads.
+#[derive(Drop)]
+pub(crate) struct Mounted<A: Allocator = Global> {
+    drive: Drive<A>,
+    cylinder: u8,
+    seek: Option<PendingSeek>,
+}
+
+impl<A: Allocator> Model for Mounted<A> {
+    ghost use Rattle.p11_rk11.specs.Drives.{MountedState};
+
+    ghost Value = { MountedState };
+
+    ghost view = { λ m. record { visible = record { contents = m.drive.contents; cylinder = m.cylinder; seek = m.seek }; prepared = m.drive.prepared } };
+}
+
+impl<A: Allocator> Mounted<A> {
+    /// A drive on which a pack was mounted just now.
+    #[tactic(auto, unfolding(crate::specs::State::fresh_drive))]
+    pub(crate) fn new(drive: Drive<A>) -> Self
+        ensures visible { result.visible ≡ fresh_drive drive.contents }
+        ensures prepared { result.prepared ≡ drive.prepared }
+    {
+        Mounted {
+            drive,
+            cylinder: 0,
+            seek: None,
+        }
+    }
+
+    /// The pack.
+    pub(crate) fn drive(&self) -> &Drive<A>
+        ensures contents { result.now.contents ≡ self.now.visible.contents }
+        ensures prepared { result.now.prepared ≡ self.now.prepared }
+    {
+        &self.drive
+    }
+
+    /// The due turn of a seek, if one is under way.
+    pub(crate) fn seek_due(&self) -> Option<u64>
+        ensures { result ≡ turn_of self.now.visible.seek }
+    {
+        match self.seek {
+            Some(seek) => Some(seek.due),
+            None => None,
+        }
+    }
+
+    #[tactic(auto, unfolding(crate::specs::State::heads_of))]
+    pub(crate) fn heads(&self) -> Heads
+        ensures { result ≡ heads_of self.now.visible }
+    {
+        Heads {
+            cylinder: self.cylinder,
+            due: self.seek_due(),
+        }
+    }
+
+    /// RKDS but for its bits 15:13.
+    #[tactic(auto, unfolding(crate::specs::State::drive_status))]
+    pub(crate) fn status(&self, turn: u64, sector: u8) -> u16
+        ensures value { result ≡ drive_status turn sector self.now.visible }
+        ensures bound { result < 0o20000 }
+    {
+        let counter = (turn % 12) as u16;
+        let is_reached = counter == u16::from(sector);
+        counter
+            + flag(is_reached, 0o20)
+            + flag(self.drive.protected(), 0o40)
+            + flag(self.seek.is_none(), 0o100)
+            + 0o4600
+    }
+
+    /// The first check at GO that holds.
+    #[tactic(auto, unfolding(crate::specs::Starts::drive_check))]
+    pub(crate) fn check(&self, registers: &Registers) -> Option<Failure>
+        ensures { result ≡ drive_check registers.now self.now.visible }
+    {
+        let uses_place = registers.function.uses_place();
+        if self.seek.is_some() {
+            Some(Failure::DriveError)
+        } else if uses_place && registers.disk_address.sector() > 11 {
+            Some(Failure::NoSector)
+        } else if uses_place && registers.disk_address.cylinder() > 202 {
+            Some(Failure::NoCylinder)
+        } else if registers.function.is_write() && self.drive.protected() {
+            Some(Failure::WriteLockout)
+        } else {
+            None
+        }
+    }
+
+    /// The turn in which the heads have come to a cylinder.
+    fn arrival(&self, turn: u64, cylinder: u8) -> u64
+        requires { turn ≤ 2 ^ 62 }
+        ensures value { result ≡ arrival turn cylinder self.now.visible }
+        ensures bound { result ≤ turn + 16 + 255 }
+    {
+        turn + 16 + u64::from(cylinder.abs_diff(self.cylinder))
+    }
+
+    /// Sends the heads to a cylinder.
+    #[tactic(auto, unfolding(crate::specs::Starts::seeking))]
+    fn send_heads(&mut self, turn: u64, cylinder: u8)
+        requires { turn ≤ 2 ^ 62 }
+        ensures visible { self.new.visible ≡ seeking turn cylinder self.old.visible }
+        ensures prepared { self.new.prepared ≡ self.old.prepared }
+    {
+        let due = self.arrival(turn, cylinder);
+        self.seek = Some(PendingSeek { due, cylinder });
+    }
+
+    /// Begins a function whose checks have passed.
+    #[tactic(auto, unfolding(crate::specs::Starts::drive_begun, crate::specs::Starts::registers_begun, crate::specs::Starts::locked, crate::specs::Starts::transferring))]
+    pub(crate) fn begin(&mut self, turn: u64, registers: &mut Registers)
+        requires { turn ≤ 2 ^ 62 }
+        ensures visible { self.new.visible ≡ drive_begun turn registers.old.disk_address registers.old.function self.old.visible }
+        ensures registers { registers.new ≡ registers_begun turn registers.old.function self.old.visible registers.old }
+        ensures prepared { self.new.prepared ≡ self.old.prepared }
+    {
+        match registers.function {
+            Function::ControlReset => *registers = Registers::cleared(),
+            Function::Write | Function::Read | Function::WriteCheck | Function::ReadCheck => {
+                let arrival = self.arrival(turn, registers.disk_address.cylinder());
+                registers.transfer = Some(arrival + 32);
+            }
+            Function::Seek => {
+                self.send_heads(turn, registers.disk_address.cylinder());
+                registers.end();
+            }
+            Function::DriveReset => {
+                self.send_heads(turn, 0);
+                registers.end();
+            }
+            Function::WriteLock => {
+                self.drive.protect();
+                registers.end();
+            }
+        }
+    }
+
+    /// A function that GO begins, unless a check holds.
+    #[tactic(auto, unfolding(crate::specs::Starts::started))]
+    pub(crate) fn start(&mut self, turn: u64, registers: &mut Registers)
+        requires { turn ≤ 2 ^ 62 }
+        ensures started { started turn registers.old self.old.visible ≡ (registers.new, self.new.visible) }
+        ensures prepared { self.new.prepared ≡ self.old.prepared }
+    {
+        match self.check(registers) {
+            Some(failure) => registers.fail(failure),
+            None => self.begin(turn, registers),
+        }
+    }
+
+    /// The heads have come to where a seek sent them.
+    #[tactic(auto, unfolding(crate::specs::Acts::arrived))]
+    pub(crate) fn arrive(&mut self)
+        ensures visible { self.new.visible ≡ arrived self.old.visible }
+        ensures prepared { self.new.prepared ≡ self.old.prepared }
+    {
+        if let Some(seek) = self.seek {
+            self.cylinder = seek.cylinder;
+            self.seek = None;
+        }
+    }
+
+    /// Ends a seek; the heads stay where they were before it.
+    pub(crate) fn stop(&mut self)
+        ensures visible { self.new.visible ≡ record self.old.visible { seek = None } }
+        ensures prepared { self.new.prepared ≡ self.old.prepared }
+    {
+        self.seek = None;
+    }
+
+    /// Finds the memory for a write of a sector.
+    pub(crate) fn prepare(&mut self, place: DiskAddress) -> Result<(), AllocError>
+        requires { is_on_disk place ≡ true }
+        ensures visible { self.new.visible ≡ self.old.visible }
+        ensures ok { OnOk result (IsTrue (list_any (nat_eq (sector_number place)) self.new.prepared)) }
+        ensures err { OnErr result (self.new ≡ self.old) }
+        ensures prepared { IsTrue (list_any (nat_eq (sector_number place)) self.old.prepared) → IsOk result }
+        ensures changed { IsTrue (list_any (nat_eq (sector_number place)) self.old.visible.contents.changed) → IsOk result }
+    {
+        self.drive.prepare(place.sector_number())
+    }
+
+    /// Moves the words of one sector, and says whether a write check found a difference.
+    #[tactic(auto, unfolding(crate::specs::Acts::contents_moved, crate::specs::Acts::memory_moved, crate::specs::Acts::differs, crate::specs::Functions::is_write, crate::specs::Functions::uses_memory))]
+    fn move_words<M: WordMemory>(&mut self, registers: &Registers, memory: &mut M) -> bool
+        requires place { is_on_disk registers.now.disk_address ≡ true }
+        requires prepared { IsTrue (is_write registers.now.function) → IsTrue (list_any (nat_eq (sector_number registers.now.disk_address)) self.old.prepared) }
+        requires held { uses_memory registers.now.function ≡ true → all_held (addresses registers.now) (words_moved registers.now) (M.words memory.old) ≡ true }
+        requires room { 256 ≤ M.room memory.old }
+        ensures visible { self.new.visible ≡ contents_moved registers.now.function registers.now (M.words memory.old) self.old.visible }
+        ensures memory { M.words memory.new ≡ memory_moved registers.now.function registers.now self.old.visible (M.words memory.old) }
+        ensures differs { result ≡ differs registers.now.function registers.now self.old.visible (M.words memory.old) }
+        ensures prepared { self.new.prepared ≡ self.old.prepared }
+    {
+        let n = registers.disk_address.sector_number();
+        let span = registers.span();
+        match registers.function {
+            Function::Write => {
+                self.drive.write(n, &bytes_of(&span.load(memory)));
+                false
+            }
+            Function::Read => {
+                span.store(memory, &words_of(self.drive.sector(n)));
+                false
+            }
+            Function::WriteCheck => span.differs(memory, &words_of(self.drive.sector(n))),
+            Function::ControlReset
+            | Function::Seek
+            | Function::ReadCheck
+            | Function::DriveReset
+            | Function::WriteLock => false,
+        }
+    }
+
+    /// Moves one sector of a transfer, or ends the function where an address isn't memory.
+    #[tactic(auto, unfolding(crate::specs::Acts::sector_moved, crate::specs::Acts::drive_moved))]
+    pub(crate) fn move_sector<M: WordMemory>(
+        &mut self,
+        turn: u64,
+        registers: &mut Registers,
+        memory: &mut M,
+    )
+        requires turn { turn ≤ 2 ^ 62 }
+        requires place { is_on_disk registers.old.disk_address ≡ true }
+        requires prepared { IsTrue (is_write registers.old.function) → IsTrue (list_any (nat_eq (sector_number registers.old.disk_address)) self.old.prepared) }
+        requires room { 256 ≤ M.room memory.old }
+        ensures moved { sector_moved turn registers.old self.old.visible (M.words memory.old) ≡ (registers.new, self.new.visible, M.words memory.new) }
+        ensures prepared { self.new.prepared ≡ self.old.prepared }
+    {
+        if is_refused(registers, memory) {
+            registers.fail(Failure::NoMemory);
+            return;
+        }
+        let differs = self.move_words(registers, memory);
+        self.cylinder = registers.disk_address.cylinder();
+        registers.sector_moved(turn, differs);
+    }
+}
+
+/// Whether an address of the sector's words isn't memory.
+#[tactic(auto, unfolding(crate::specs::Acts::is_refused))]
+fn is_refused<M: WordMemory>(registers: &Registers, memory: &M) -> bool
+    ensures { result ≡ is_refused registers.now (M.words memory.now) }
+{
+    if registers.function.uses_memory() {
+        !registers.span().is_held(memory)
+    } else {
+        false
+    }
+}

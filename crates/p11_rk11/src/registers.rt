@@ -1,0 +1,299 @@
+//! The controller's registers as their parts, and what each event makes of them.
+ghost use Rattle.std.specs.Prelude.{◌≡◌, ◌<◌, ◌≤◌, ◌+◌, ◌^◌, Some, None, is_some, true, false};
+ghost use Rattle.p11_rk11.specs.Acts.{search_completed};
+ghost use Rattle.p11_rk11.specs.Place.{is_on_disk};
+ghost use Rattle.p11_rk11.specs.Starts.{go_cleared, value_taken};
+ghost use Rattle.p11_rk11.specs.Registers.{is_due, cleared_registers, control_word, low_bits, high_bits, taken_enable, enable_rises, taken_control, words_left, words_moved, ended, failed, requested, counted, noted, continued, registers_moved, is_ready};
+
+use crate::address::BusAddress;
+use crate::errors::{Errors, Failure, flag};
+use crate::function::Function;
+use crate::place::{DiskAddress, DriveNumber};
+use crate::register::Register;
+use crate::sector::Span;
+
+/// The registers of the controller.
+#[derive(Drop)]
+pub struct Registers {
+    /// RKER.
+    pub errors: Errors,
+    /// RKCS 3:1.
+    pub function: Function,
+    /// RKCS 6.
+    pub enable: bool,
+    /// RKCS 8.
+    pub stop_on_soft_error: bool,
+    /// RKCS 10.
+    pub format: bool,
+    /// RKCS 11.
+    pub inhibit_increment: bool,
+    /// RKCS 13.
+    pub search_complete: bool,
+    /// RKWC.
+    pub word_count: u16,
+    /// RKCS 5:4 and RKBA.
+    pub bus_address: BusAddress,
+    /// RKDA.
+    pub disk_address: DiskAddress,
+    /// RKDS 15:13.
+    pub finished_seek: DriveNumber,
+    /// The turn in which the running transfer's sector is due. RKCS 7, ready, is 1 where none runs.
+    pub transfer: Option<u64>,
+    /// The request for an interrupt.
+    pub request: bool,
+}
+
+impl Registers {
+    /// The registers after INIT or a control reset.
+    #[tactic(auto, unfolding(crate::specs::Registers::cleared_registers, crate::specs::Place::place_of_word))]
+    pub(crate) fn cleared() -> Registers
+        ensures { result ≡ cleared_registers }
+    {
+        Registers {
+            errors: Errors::NONE,
+            function: Function::ControlReset,
+            enable: false,
+            stop_on_soft_error: false,
+            format: false,
+            inhibit_increment: false,
+            search_complete: false,
+            word_count: 0,
+            bus_address: BusAddress::ZERO,
+            disk_address: DiskAddress::from_word(0),
+            finished_seek: DriveNumber::new(0),
+            transfer: None,
+            request: false,
+        }
+    }
+
+    /// RKCS as a word. GO reads as 0.
+    #[tactic(auto, unfolding(crate::specs::Registers::control_word))]
+    pub(crate) fn control_word(&self) -> u16
+        ensures { result ≡ control_word self.now }
+    {
+        let errors = self.errors.word();
+        self.low_bits()
+            + self.high_bits()
+            + flag(errors >> 1 != 0, 0o40000)
+            + flag(errors != 0, 0o100000)
+    }
+
+    /// RKCS takes its enable bit, and says whether that has risen. Without enable no request stands.
+    #[tactic(auto, unfolding(crate::specs::Registers::taken_enable, crate::specs::Registers::enable_rises))]
+    pub(crate) fn take_enable(&mut self, word: u16) -> bool
+        ensures state { self.new ≡ taken_enable word self.old }
+        ensures rises { result ≡ enable_rises word self.old }
+    {
+        let was_enabled = self.enable;
+        let is_enabled = word >> 6 & 1 == 1;
+        self.enable = is_enabled;
+        if is_enabled {
+            !was_enabled
+        } else {
+            self.request = false;
+            false
+        }
+    }
+
+    /// RKCS takes what a write gives it while ready, but for enable and GO.
+    #[tactic(auto, unfolding(crate::specs::Registers::taken_control))]
+    pub(crate) fn take_control(&mut self, word: u16)
+        ensures { self.new ≡ taken_control word self.old }
+    {
+        self.function = Function::from_number(word >> 1 & 7);
+        self.bus_address.extension = (word >> 4 & 3) as u8;
+        self.stop_on_soft_error = word >> 8 & 1 == 1;
+        self.format = word >> 10 & 1 == 1;
+        self.inhibit_increment = word >> 11 & 1 == 1;
+    }
+
+    /// Writes RKWC, RKBA or RKDA. RKBA has no bit 0.
+    #[tactic(auto, unfolding(crate::specs::Starts::value_taken))]
+    pub(crate) fn set(&mut self, register: Register, word: u16)
+        ensures { self.new ≡ value_taken register word self.old }
+    {
+        match register {
+            Register::WordCount => self.word_count = word,
+            Register::BusAddress => self.bus_address.low = word & 0o177776,
+            Register::DiskAddress => self.disk_address = DiskAddress::from_word(word),
+            Register::DriveStatus
+            | Register::Error
+            | Register::ControlStatus
+            | Register::DataBuffer => {}
+        }
+    }
+
+    /// Asks for an interrupt, if enable is 1.
+    #[tactic(auto, unfolding(crate::specs::Registers::requested))]
+    pub(crate) fn raise_request(&mut self)
+        ensures { self.new ≡ requested self.old }
+    {
+        if self.enable {
+            self.request = true;
+        }
+    }
+
+    /// The service of the request begins.
+    pub(crate) fn drop_request(&mut self)
+        ensures { self.new ≡ record self.old { request = false } }
+    {
+        self.request = false;
+    }
+
+    /// A function ends: ready, and a request.
+    #[tactic(auto, unfolding(crate::specs::Registers::ended))]
+    pub(crate) fn end(&mut self)
+        ensures { self.new ≡ ended self.old }
+    {
+        self.transfer = None;
+        self.raise_request();
+    }
+
+    /// A function ends with an error.
+    #[tactic(auto, unfolding(crate::specs::Registers::failed))]
+    pub(crate) fn fail(&mut self, failure: Failure)
+        ensures { self.new ≡ failed failure self.old }
+    {
+        self.errors = self.errors.with(failure);
+        self.end();
+    }
+
+    /// RKCS 7:0.
+    #[tactic(auto, unfolding(crate::specs::Registers::low_bits))]
+    fn low_bits(&self) -> u16
+        ensures value { result ≡ low_bits self.now }
+        ensures bound { result ≤ 0o10276 }
+    {
+        self.function.number() * 0o2
+            + self.bus_address.extension_bits()
+            + flag(self.enable, 0o100)
+            + flag(self.is_ready(), 0o200)
+    }
+
+    /// RKCS 13:8.
+    #[tactic(auto, unfolding(crate::specs::Registers::high_bits))]
+    fn high_bits(&self) -> u16
+        ensures value { result ≡ high_bits self.now }
+        ensures bound { result ≤ 0o26400 }
+    {
+        flag(self.stop_on_soft_error, 0o400)
+            + flag(self.format, 0o2000)
+            + flag(self.inhibit_increment, 0o4000)
+            + flag(self.search_complete, 0o20000)
+    }
+
+    /// Whether no transfer runs.
+    pub(crate) fn is_ready(&self) -> bool
+        ensures { result ≡ is_ready self.now }
+    {
+        self.transfer.is_none()
+    }
+
+    #[tactic(auto, unfolding(crate::specs::Registers::words_left))]
+    pub(crate) fn words_left(&self) -> u32
+        ensures value { result ≡ words_left self.now }
+        ensures some { 0 < result }
+    {
+        0x1_0000 - u32::from(self.word_count)
+    }
+
+    /// The words of one sector that move.
+    #[tactic(auto, unfolding(crate::specs::Registers::words_moved))]
+    pub(crate) fn words_moved(&self) -> u32
+        ensures value { result ≡ words_moved self.now }
+        ensures bound { result ≤ 256 }
+    {
+        self.words_left().min(256)
+    }
+
+    /// The memory of the words that move.
+    pub(crate) fn span(&self) -> Span
+        ensures start { result.start ≡ self.now.bus_address }
+        ensures stays { result.stays ≡ self.now.inhibit_increment }
+        ensures count { result.count ≡ words_moved self.now }
+        ensures bound { result.count ≤ 256 }
+    {
+        Span {
+            start: self.bus_address,
+            stays: self.inhibit_increment,
+            count: self.words_moved(),
+        }
+    }
+
+    /// The counters go on by one sector's words.
+    #[tactic(auto, unfolding(crate::specs::Registers::counted, crate::specs::Registers::words_moved))]
+    fn count(&mut self)
+        requires { is_on_disk self.old.disk_address ≡ true }
+        ensures { self.new ≡ counted self.old }
+    {
+        let moved = self.words_moved();
+        if self.function.uses_memory() && !self.inhibit_increment {
+            self.bus_address = self.bus_address.after(moved);
+        }
+        self.word_count = (u32::from(self.word_count) + moved & 0xffff) as u16;
+        self.disk_address = self.disk_address.next();
+    }
+
+    /// A moved sector is followed by the function's end or the next sector.
+    #[tactic(auto, unfolding(crate::specs::Registers::continued))]
+    fn go_on(&mut self, turn: u64, was_last: bool, differs: bool)
+        requires { turn ≤ 2 ^ 62 }
+        ensures { self.new ≡ continued turn was_last differs self.old }
+    {
+        if was_last {
+            self.end();
+        } else if differs && self.stop_on_soft_error {
+            self.end();
+        } else if self.disk_address.cylinder() == 203 {
+            self.fail(Failure::Overrun);
+        } else {
+            self.transfer = Some(turn + 32);
+        }
+    }
+
+    /// GO clears the soft error and search complete.
+    #[tactic(auto, unfolding(crate::specs::Starts::go_cleared))]
+    pub(crate) fn clear_at_go(&mut self)
+        ensures { self.new ≡ go_cleared self.old }
+    {
+        self.errors.write_check = false;
+        self.search_complete = false;
+    }
+
+    /// A seek is done.
+    #[tactic(auto, unfolding(crate::specs::Acts::search_completed))]
+    pub(crate) fn complete_search(&mut self, drive: u8)
+        requires { drive < 8 }
+        ensures { self.new ≡ search_completed drive self.old }
+    {
+        self.search_complete = true;
+        self.finished_seek = DriveNumber::new(drive);
+        self.raise_request();
+    }
+
+    /// What a moved sector does to the registers.
+    #[tactic(auto, unfolding(crate::specs::Registers::registers_moved, crate::specs::Registers::noted))]
+    pub(crate) fn sector_moved(&mut self, turn: u64, differs: bool)
+        requires turn { turn ≤ 2 ^ 62 }
+        requires place { is_on_disk self.old.disk_address ≡ true }
+        ensures { self.new ≡ registers_moved turn differs self.old }
+    {
+        let was_last = self.words_left() <= 256;
+        if differs {
+            self.errors.write_check = true;
+        }
+        self.count();
+        self.go_on(turn, was_last, differs);
+    }
+}
+
+/// Whether an act with this due turn, if it has one, is due now.
+#[tactic(auto, unfolding(crate::specs::Registers::is_due))]
+pub(crate) fn is_due(turn: u64, due: Option<u64>) -> bool
+    ensures { result ≡ is_due turn due }
+{
+    match due {
+        Some(due) => due == turn,
+        None => false,
+    }
+}

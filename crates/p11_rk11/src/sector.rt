@@ -1,0 +1,91 @@
+//! The words of one sector: between its bytes and memory.
+ghost use Rattle.std.specs.Prelude.{◌≡◌, ℕ, ◌+◌, ◌<◌, ◌≤◌, length, true, not, nat_eq, IsSome, take};
+ghost use Rattle.std.specs.Cmp.Lexicographic.{pointwise};
+ghost use Rattle.p11_rk11.specs.Address.{word_address};
+ghost use Rattle.p11_rk11.specs.Memory.{all_held, all_stored};
+ghost use Rattle.p11_rk11.specs.Sector.{words_of_sector, bytes_of_words, words_from, sector_from};
+
+use crate::address::BusAddress;
+use crate::memory::WordMemory;
+use byteorder::{ByteOrder, LittleEndian};
+
+/// The words in the bytes of a sector.
+pub(crate) fn words_of(bytes: &[u8]) -> [u16; 256]
+    requires { length bytes.now ≡ 512 }
+    ensures { result ≡ words_of_sector bytes.now }
+{
+    let mut words = [0; 256];
+    LittleEndian::read_u16_into(bytes, &mut words);
+    words
+}
+
+/// The bytes of a sector's words.
+#[tactic(auto, unfolding(crate::specs::Sector::bytes_of_words))]
+pub(crate) fn bytes_of(words: &[u16; 256]) -> [u8; 512]
+    ensures { result ≡ bytes_of_words words.now }
+{
+    let mut bytes = [0; 512];
+    LittleEndian::write_u16_into(words, &mut bytes);
+    bytes
+}
+
+/// The memory of one sector's words.
+#[derive(Clone, Copy)]
+pub(crate) struct Span {
+    pub(crate) start: BusAddress,
+    /// Whether all words have the first word's address.
+    pub(crate) stays: bool,
+    pub(crate) count: u32,
+}
+
+impl Span {
+    /// Whether every address is memory.
+    pub(crate) fn is_held<M: WordMemory>(self, memory: &M) -> bool
+        requires { self.count ≤ 256 }
+        ensures { result ≡ all_held (word_address self.start self.stays) self.count (M.words memory.now) }
+    {
+        for k in 0..self.count {
+            if !memory.holds(self.start.of_word(self.stays, k)) {
+                return false;
+            }
+        }
+        true
+    }
+
+    /// A sector's words: those of memory, and zeros behind them.
+    pub(crate) fn load<M: WordMemory>(self, memory: &M) -> [u16; 256]
+        requires count { self.count ≤ 256 }
+        requires held { all_held (word_address self.start self.stays) self.count (M.words memory.now) ≡ true }
+        ensures { result ≡ sector_from (word_address self.start self.stays) self.count (M.words memory.now) }
+    {
+        let mut words = [0; 256];
+        for k in 0..self.count {
+            words[k as usize] = memory.load(self.start.of_word(self.stays, k));
+        }
+        words
+    }
+
+    /// Whether memory's words are other than a sector's first words.
+    pub(crate) fn differs<M: WordMemory>(self, memory: &M, words: &[u16; 256]) -> bool
+        requires count { self.count ≤ 256 }
+        requires held { all_held (word_address self.start self.stays) self.count (M.words memory.now) ≡ true }
+        ensures { result ≡ not (pointwise nat_eq (words_from (word_address self.start self.stays) self.count (M.words memory.now)) (take self.count words.now)) }
+    {
+        let count = self.count as usize;
+        let loaded = self.load(memory);
+        loaded[..count] != words[..count]
+    }
+
+    /// Stores a sector's first words.
+    pub(crate) fn store<M: WordMemory>(self, memory: &mut M, words: &[u16; 256])
+        requires count { self.count ≤ 256 }
+        requires held { all_held (word_address self.start self.stays) self.count (M.words memory.old) ≡ true }
+        requires room { self.count ≤ M.room memory.old }
+        ensures words { M.words memory.new ≡ all_stored (word_address self.start self.stays) words.now self.count (M.words memory.old) }
+        ensures room { M.room memory.old ≤ M.room memory.new + self.count }
+    {
+        for k in 0..self.count {
+            memory.store(self.start.of_word(self.stays, k), words[k as usize]);
+        }
+    }
+}
