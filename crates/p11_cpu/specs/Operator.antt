@@ -1,7 +1,12 @@
 -- What the operator does to a machine between turns, and a new machine.
-use Rattle.std.specs.Prelude.{ℕ, replicate, false, Bool}
-use Rattle.p11_psw.specs.Status.{new_status}
-use Rattle.p11_cpu.specs.State.{HardwareState, State}
+use Rattle.std.specs.Prelude.{ℕ, replicate, false, Bool, Option, Some, None, ◌==◌, if◌then◌else◌}
+use Rattle.p11_decode.specs.declared.operand.Register.TheVariants as registers
+use Rattle.p11_psw.specs.declared.mode.Mode.TheVariants.{Kernel}
+use Rattle.p11_psw.specs.Status.{new_status, status_of}
+use Rattle.p11_cpu.specs.declared.registers.ConsoleRegister.{ConsoleRegister}
+use Rattle.p11_cpu.specs.declared.registers.ConsoleRegister.TheVariants.{R0, R1, R2, R3, R4, R5, KernelSp, Pc, UserSp, Status}
+use Rattle.p11_cpu.specs.State.{Processor, HardwareState, State}
+use Rattle.p11_cpu.specs.Registers.{with_register}
 use Rattle.p11_cpu.specs.Bus.{new_bus, bus_answers, see, changed_at}
 
 -- a machine of so many thousand words of memory: zeros everywhere
@@ -35,6 +40,40 @@ examine_of address s = see s.turns address s.hardware.bus
 unfoldable pub deposit_of : ℕ → ℕ → State → State
 deposit_of address word s =
     record s { hardware = record s.hardware { bus = changed_at s.turns address word s.hardware.bus } }
+
+-- the registers that the operator can set, by their numbers
+unfoldable pub console_register : ℕ → Option ConsoleRegister
+console_register n =
+    if n == 0 then Some R0
+    else (if n == 1 then Some R1
+    else (if n == 2 then Some R2
+    else (if n == 3 then Some R3
+    else (if n == 4 then Some R4
+    else (if n == 5 then Some R5
+    else (if n == 6 then Some KernelSp
+    else (if n == 7 then Some Pc
+    else (if n == 0o10 then Some UserSp
+    else (if n == 0o11 then Some Status
+    else None)))))))))
+
+-- the operator's setting of a register: the status word takes every bit but 11:8, T among them
+abbrev pub with_console_register : ConsoleRegister → ℕ → Processor → Processor
+with_console_register R0 value p = record p { registers = with_register Kernel registers.R0 value p.registers }
+with_console_register R1 value p = record p { registers = with_register Kernel registers.R1 value p.registers }
+with_console_register R2 value p = record p { registers = with_register Kernel registers.R2 value p.registers }
+with_console_register R3 value p = record p { registers = with_register Kernel registers.R3 value p.registers }
+with_console_register R4 value p = record p { registers = with_register Kernel registers.R4 value p.registers }
+with_console_register R5 value p = record p { registers = with_register Kernel registers.R5 value p.registers }
+with_console_register KernelSp value p = record p { registers = record p.registers { kernel_sp = value } }
+with_console_register Pc value p = record p { registers = record p.registers { pc = value } }
+with_console_register UserSp value p = record p { registers = record p.registers { user_sp = value } }
+with_console_register Status value p = record p { status = status_of value }
+
+unfoldable pub set_console : ConsoleRegister → ℕ → HardwareState → HardwareState
+set_console r value h = record h { processor = with_console_register r value h.processor }
+
+unfoldable pub set_reg_of : ConsoleRegister → ℕ → State → State
+set_reg_of r value s = record s { hardware = set_console r value s.hardware }
 
 -- START: a reset of the bus (of which memory alone is there, and stays), status 0, PC at the address, and no waiting or
 -- halted mark; the other registers and the count of turns stay

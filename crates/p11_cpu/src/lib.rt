@@ -17,5 +17,5 @@ mod trap;
 mod turn;
 
 pub use machine::Machine;
-pub use registers::Registers;
+pub use registers::{ConsoleRegister, Registers};
 pub use turn::Turn;

@@ -1,8 +1,46 @@
 ghost use Rattle.std.specs.Prelude.{◌≡◌, replicate};
 ghost use Rattle.p11_cpu.specs.Registers.{register_in, with_register, stack_pointer, with_stack_pointer};
+ghost use Rattle.p11_cpu.specs.Operator.{console_register};
 
 use p11_decode::Register;
 use p11_psw::Mode;
+
+/// A register that the operator can set by its number (octal): 0 to 5, the kernel's stack pointer 6, PC 7, the user's
+/// stack pointer 10 and the processor status word 11.
+#[derive(Clone, Copy, Debug, PartialEq, Eq)]
+pub enum ConsoleRegister {
+    R0,
+    R1,
+    R2,
+    R3,
+    R4,
+    R5,
+    KernelSp,
+    Pc,
+    UserSp,
+    Status,
+}
+
+impl ConsoleRegister {
+    /// The register of a number, where it has one.
+    pub fn numbered(number: u16) -> Option<ConsoleRegister>
+        ensures { result ≡ console_register number }
+    {
+        match number {
+            0 => Some(ConsoleRegister::R0),
+            1 => Some(ConsoleRegister::R1),
+            2 => Some(ConsoleRegister::R2),
+            3 => Some(ConsoleRegister::R3),
+            4 => Some(ConsoleRegister::R4),
+            5 => Some(ConsoleRegister::R5),
+            6 => Some(ConsoleRegister::KernelSp),
+            7 => Some(ConsoleRegister::Pc),
+            0o10 => Some(ConsoleRegister::UserSp),
+            0o11 => Some(ConsoleRegister::Status),
+            _ => None,
+        }
+    }
+}
 
 /// The processor's registers: R0 to R5, the stack pointers of kernel mode and of the other modes, and PC.
 #[derive(Clone, Copy, Debug, PartialEq, Eq)]
