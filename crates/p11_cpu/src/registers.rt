@@ -23,6 +23,7 @@ pub enum ConsoleRegister {
 
 impl ConsoleRegister {
     /// The register of a number, where it has one.
+    #[tactic(auto, unfolding(crate::specs::Operator::console_register))]
     pub fn numbered(number: u16) -> Option<ConsoleRegister>
         ensures { result ≡ console_register number }
     {
