@@ -5,6 +5,12 @@ pub mod Bus
 pub mod References
 pub mod Operands
 pub mod Moves
+pub mod SingleOperand
+pub mod DoubleOperand
+pub mod RegisterOperand
+pub mod ProgramControl
+pub mod ProcessorControl
 pub mod Instructions
+pub mod Services
 pub mod Turns
 pub mod Operator

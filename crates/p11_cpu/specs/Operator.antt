@@ -1,13 +1,15 @@
 -- What the operator does to a machine between turns, and a new machine.
-use Rattle.std.specs.Prelude.{ℕ, replicate, false, Bool, Option, Some, None, ◌==◌, if◌then◌else◌}
+use Rattle.std.specs.Prelude.{ℕ, replicate, true, false, Bool, Option, Some, None, ◌==◌, if◌then◌else◌}
 use Rattle.p11_decode.specs.declared.operand.Register.TheVariants as registers
 use Rattle.p11_psw.specs.declared.mode.Mode.TheVariants.{Kernel}
-use Rattle.p11_psw.specs.Status.{new_status, status_of}
+use Rattle.p11_psw.specs.Status.{new_status, status_of, status_word}
 use Rattle.p11_cpu.specs.declared.registers.ConsoleRegister.{ConsoleRegister}
 use Rattle.p11_cpu.specs.declared.registers.ConsoleRegister.TheVariants.{R0, R1, R2, R3, R4, R5, KernelSp, Pc, UserSp, Status}
 use Rattle.p11_cpu.specs.State.{Processor, HardwareState, State}
 use Rattle.p11_cpu.specs.Registers.{with_register}
 use Rattle.p11_cpu.specs.Bus.{new_bus, bus_answers, see, changed_at}
+use Rattle.p11_cpu.specs.References.{status_address, status_written}
+use Rattle.p11_cpu.specs.ProcessorControl.{initialized}
 
 -- a machine of so many thousand words of memory: zeros everywhere
 unfoldable pub new_machine : ℕ → State
@@ -22,24 +24,35 @@ new_machine kwords =
                   status = new_status;
                   waiting = false;
                   halted = false;
+                  limit_passed = false;
                 };
             management = record {};
             bus = new_bus kwords;
           };
     }
 
--- whether an even bus address has a word
-unfoldable pub answers_of : ℕ → State → Bool
-answers_of address s = bus_answers address s.hardware.bus
+-- whether an even bus address has a word: what is on the bus, and the status word in front of it
+unfoldable pub answers_at : ℕ → HardwareState → Bool
+answers_at address h = if address == status_address then true else bus_answers address h.bus
 
 -- the word that shows there
-unfoldable pub examine_of : ℕ → State → ℕ
-examine_of address s = see s.turns address s.hardware.bus
+unfoldable pub shown_at : ℕ → ℕ → HardwareState → ℕ
+shown_at turn address h =
+    if address == status_address then status_word h.processor.status else see turn address h.bus
 
--- the machine once a word is written there
+-- the hardware once a word is written there
+unfoldable pub deposited_at : ℕ → ℕ → ℕ → HardwareState → HardwareState
+deposited_at turn address word h =
+    if address == status_address then status_written word h else record h { bus = changed_at turn address word h.bus }
+
+unfoldable pub answers_of : ℕ → State → Bool
+answers_of address s = answers_at address s.hardware
+
+unfoldable pub examine_of : ℕ → State → ℕ
+examine_of address s = shown_at s.turns address s.hardware
+
 unfoldable pub deposit_of : ℕ → ℕ → State → State
-deposit_of address word s =
-    record s { hardware = record s.hardware { bus = changed_at s.turns address word s.hardware.bus } }
+deposit_of address word s = record s { hardware = deposited_at s.turns address word s.hardware }
 
 -- the registers that the operator can set, by their numbers
 unfoldable pub console_register : ℕ → Option ConsoleRegister
@@ -75,14 +88,15 @@ set_console r value h = record h { processor = with_console_register r value h.p
 unfoldable pub set_reg_of : ConsoleRegister → ℕ → State → State
 set_reg_of r value s = record s { hardware = set_console r value s.hardware }
 
--- START: a reset of the bus (of which memory alone is there, and stays), status 0, PC at the address, and no waiting or
--- halted mark; the other registers and the count of turns stay
+-- START: the bus is initialised, the status is 0, PC the address, and no waiting or halted mark is left; the other
+-- registers and the count of turns stay
 unfoldable pub started : ℕ → HardwareState → HardwareState
 started pc h =
-    record h {
+    let reset = initialized h in
+    record reset {
       processor =
-          record h.processor {
-            registers = record h.processor.registers { pc = pc };
+          record reset.processor {
+            registers = record reset.processor.registers { pc = pc };
             status = new_status;
             waiting = false;
             halted = false;

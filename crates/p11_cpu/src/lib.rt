@@ -5,15 +5,21 @@
 #![tactic(auto)]
 
 mod bus;
+mod double_operand;
 mod hardware;
 mod instructions;
 mod machine;
 mod memory;
 mod operand;
+mod processor_control;
+mod program_control;
+mod references;
+mod register_operand;
 mod registers;
+mod service;
+mod single_operand;
 #[cfg(test)]
 mod tests;
-mod trap;
 mod turn;
 
 pub use machine::Machine;

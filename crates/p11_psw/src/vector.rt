@@ -1,4 +1,4 @@
-ghost use Rattle.std.specs.Prelude.{◌≡◌};
+ghost use Rattle.std.specs.Prelude.{◌≡◌, ◌<◌};
 ghost use Rattle.p11_psw.specs.Vectors.{vector_address, vector_level};
 
 use crate::priority::Priority;
@@ -31,9 +31,11 @@ pub enum Vector {
 }
 
 impl Vector {
-    /// The address in kernel space of the vector's first word, the new PC. The new status word is in the next word.
+    /// The address in kernel space of the vector's first word, the new PC. The new status word is in the next word. All
+    /// vectors lie below the stack limit, 400 (octal).
     pub fn address(self) -> u16
-        ensures { result ≡ vector_address self }
+        ensures value { result ≡ vector_address self }
+        ensures bound { result < 0o400 }
     {
         match self {
             Vector::BusError => 0o4,

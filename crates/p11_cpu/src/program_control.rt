@@ -1,0 +1,137 @@
+ghost use Rattle.std.specs.Prelude.{◌≡◌};
+ghost use Rattle.p11_cpu.specs.Instructions.{execute_of};
+ghost use Rattle.p11_cpu.specs.ProgramControl.{is_taken, branch_address, branched, counted_back};
+
+use crate::hardware::Hardware;
+use p11_alu::Codes;
+use p11_decode::{Condition, Count, Op, Operand, Register};
+use p11_psw::Vector;
+use std::alloc::Allocator;
+
+/// Whether a branch is taken, by the condition codes.
+#[tactic(auto, unfolding(crate::specs::ProgramControl::is_taken))]
+fn takes(condition: Condition, codes: Codes) -> bool
+    ensures { result ≡ is_taken condition codes }
+{
+    match condition {
+        Condition::Always => true,
+        Condition::NotEqual => !codes.z,
+        Condition::Equal => codes.z,
+        Condition::GreaterOrEqual => codes.n == codes.v,
+        Condition::Less => codes.n != codes.v,
+        Condition::Greater => !codes.z && codes.n == codes.v,
+        Condition::LessOrEqual => codes.z || codes.n != codes.v,
+        Condition::Plus => !codes.n,
+        Condition::Minus => codes.n,
+        Condition::Higher => !codes.c && !codes.z,
+        Condition::LowerOrSame => codes.c || codes.z,
+        Condition::OverflowClear => !codes.v,
+        Condition::OverflowSet => codes.v,
+        Condition::CarryClear => !codes.c,
+        Condition::CarrySet => codes.c,
+    }
+}
+
+/// Where a branch goes from the word after it, by its offset in words.
+fn branch_target(offset: u8, pc: u16) -> u16
+    ensures { result ≡ branch_address offset pc }
+{
+    if offset < 128 {
+        pc.wrapping_add(2 * u16::from(offset))
+    } else {
+        pc.wrapping_sub(2 * (256 - u16::from(offset)))
+    }
+}
+
+impl<A: Allocator> Hardware<A> {
+    /// Sets PC to a branch's address, where the branch is taken.
+    #[tactic(auto, unfolding(crate::specs::ProgramControl::branched))]
+    fn take_branch(&mut self, condition: Condition, offset: u8)
+        ensures { self.new ≡ branched condition offset self.old }
+    {
+        if takes(condition, self.codes()) {
+            let target = branch_target(offset, self.register(Register::Pc));
+            self.set_register(Register::Pc, target);
+        }
+    }
+
+    /// Takes twice the count from PC, where a loop has turns left.
+    #[tactic(auto, unfolding(crate::specs::ProgramControl::counted_back))]
+    fn count_back(&mut self, left: u16, count: Count)
+        ensures { self.new ≡ counted_back left count self.old }
+    {
+        if left != 0 {
+            let target = self.register(Register::Pc).wrapping_sub(2 * u16::from(count.words()));
+            self.set_register(Register::Pc, target);
+        }
+    }
+
+    /// BR and the conditional branches.
+    #[tactic(auto, unfolding(crate::specs::Instructions::moves_of))]
+    pub fn branch(&mut self, _turn: u64, condition: Condition, offset: u8) -> Result<(), Vector>
+        ensures { execute_of (Op.Branch condition offset) _turn self.old ≡ (self.new, result) }
+    {
+        self.take_branch(condition, offset);
+        Ok(())
+    }
+
+    /// JMP.
+    #[tactic(auto, unfolding(crate::specs::Instructions::moves_of))]
+    pub fn jmp(&mut self, turn: u64, operand: Operand) -> Result<(), Vector>
+        ensures { execute_of (Op.Jmp operand) turn self.old ≡ (self.new, result) }
+    {
+        let target = self.find_target(turn, operand)?;
+        self.set_register(Register::Pc, target);
+        Ok(())
+    }
+
+    /// JSR.
+    #[tactic(auto, unfolding(crate::specs::Instructions::moves_of))]
+    pub fn jsr(&mut self, turn: u64, register: Register, operand: Operand) -> Result<(), Vector>
+        ensures { execute_of (Op.Jsr register operand) turn self.old ≡ (self.new, result) }
+    {
+        let target = self.find_target(turn, operand)?;
+        self.push_register(turn, register)?;
+        let pc = self.register(Register::Pc);
+        self.set_register(register, pc);
+        self.set_register(Register::Pc, target);
+        Ok(())
+    }
+
+    /// RTS.
+    #[tactic(auto, unfolding(crate::specs::Instructions::moves_of))]
+    pub fn rts(&mut self, turn: u64, register: Register) -> Result<(), Vector>
+        ensures { execute_of (Op.Rts register) turn self.old ≡ (self.new, result) }
+    {
+        let link = self.register(register);
+        self.set_register(Register::Pc, link);
+        let word = self.pop(turn)?;
+        self.set_register(register, word);
+        Ok(())
+    }
+
+    /// MARK.
+    #[tactic(auto, unfolding(crate::specs::Instructions::moves_of))]
+    pub fn mark(&mut self, turn: u64, count: Count) -> Result<(), Vector>
+        ensures { execute_of (Op.Mark count) turn self.old ≡ (self.new, result) }
+    {
+        let pc = self.register(Register::Pc);
+        self.set_register(Register::Sp, pc.wrapping_add(2 * u16::from(count.words())));
+        let link = self.register(Register::R5);
+        self.set_register(Register::Pc, link);
+        let word = self.pop(turn)?;
+        self.set_register(Register::R5, word);
+        Ok(())
+    }
+
+    /// SOB.
+    #[tactic(auto, unfolding(crate::specs::Instructions::moves_of))]
+    pub fn sob(&mut self, _turn: u64, register: Register, count: Count) -> Result<(), Vector>
+        ensures { execute_of (Op.Sob register count) _turn self.old ≡ (self.new, result) }
+    {
+        let left = self.register(register).wrapping_sub(1);
+        self.set_register(register, left);
+        self.count_back(left, count);
+        Ok(())
+    }
+}

@@ -1,0 +1,110 @@
+ghost use Rattle.std.specs.Prelude.{◌≡◌};
+ghost use Rattle.p11_cpu.specs.Instructions.{execute_of};
+ghost use Rattle.p11_cpu.specs.Moves.{odd_of, pair_of_registers, set_pair_of};
+ghost use Rattle.p11_cpu.specs.RegisterOperand.{quotient_stored};
+
+use crate::hardware::Hardware;
+use p11_alu::{Pair, Quotient, ash, ashc, div, mul};
+use p11_decode::{Op, Operand, Register, Size};
+use p11_psw::Vector;
+use std::alloc::Allocator;
+
+/// The register of a pair's low half: the next one of an even register, an odd register itself.
+fn low_half(register: Register) -> Register
+    ensures { result ≡ odd_of register }
+{
+    match register {
+        Register::R0 | Register::R1 => Register::R1,
+        Register::R2 | Register::R3 => Register::R3,
+        Register::R4 | Register::R5 => Register::R5,
+        Register::Sp | Register::Pc => Register::Pc,
+    }
+}
+
+impl<A: Allocator> Hardware<A> {
+    /// A register and the next one, or an odd register twice.
+    #[tactic(auto, unfolding(crate::specs::Moves::pair_of_registers))]
+    fn pair(&self, register: Register) -> Pair
+        ensures { result ≡ pair_of_registers register self.now }
+    {
+        Pair {
+            high: self.register(register),
+            low: self.register(low_half(register)),
+        }
+    }
+
+    /// Sets a register and the next one, or an odd register to the low half.
+    #[tactic(auto, unfolding(crate::specs::Moves::set_pair_of))]
+    fn set_pair(&mut self, register: Register, pair: Pair)
+        ensures { self.new ≡ set_pair_of register pair self.old }
+    {
+        self.set_register(register, pair.high);
+        self.set_register(low_half(register), pair.low);
+    }
+
+    /// Stores a quotient that fits, and its remainder.
+    #[tactic(auto, unfolding(crate::specs::RegisterOperand::quotient_stored))]
+    fn store_quotient(&mut self, register: Register, quotient: Quotient)
+        ensures { self.new ≡ quotient_stored register quotient self.old }
+    {
+        if quotient.fits {
+            let pair = Pair {
+                high: quotient.quotient,
+                low: quotient.remainder,
+            };
+            self.set_pair(register, pair);
+        }
+    }
+
+    /// MUL.
+    #[tactic(auto, unfolding(crate::specs::Instructions::moves_of))]
+    pub fn mul(&mut self, turn: u64, register: Register, operand: Operand) -> Result<(), Vector>
+        ensures { execute_of (Op.Mul register operand) turn self.old ≡ (self.new, result) }
+    {
+        let place = self.find_place(turn, Size::Word, operand)?;
+        let factor = self.read_place(turn, Size::Word, place)?;
+        let (product, codes) = mul(self.register(register), factor);
+        self.set_codes(codes);
+        self.set_pair(register, product);
+        Ok(())
+    }
+
+    /// DIV.
+    #[tactic(auto, unfolding(crate::specs::Instructions::moves_of))]
+    pub fn div(&mut self, turn: u64, register: Register, operand: Operand) -> Result<(), Vector>
+        ensures { execute_of (Op.Div register operand) turn self.old ≡ (self.new, result) }
+    {
+        let place = self.find_place(turn, Size::Word, operand)?;
+        let divisor = self.read_place(turn, Size::Word, place)?;
+        let quotient = div(self.pair(register), divisor);
+        self.set_codes(quotient.codes);
+        self.store_quotient(register, quotient);
+        Ok(())
+    }
+
+    /// ASH.
+    #[tactic(auto, unfolding(crate::specs::Instructions::moves_of))]
+    pub fn ash(&mut self, turn: u64, register: Register, operand: Operand) -> Result<(), Vector>
+        ensures { execute_of (Op.Ash register operand) turn self.old ≡ (self.new, result) }
+    {
+        let place = self.find_place(turn, Size::Word, operand)?;
+        let count = self.read_place(turn, Size::Word, place)?;
+        let (shifted, codes) = ash(self.register(register), count);
+        self.set_codes(codes);
+        self.set_register(register, shifted);
+        Ok(())
+    }
+
+    /// ASHC.
+    #[tactic(auto, unfolding(crate::specs::Instructions::moves_of))]
+    pub fn ashc(&mut self, turn: u64, register: Register, operand: Operand) -> Result<(), Vector>
+        ensures { execute_of (Op.Ashc register operand) turn self.old ≡ (self.new, result) }
+    {
+        let place = self.find_place(turn, Size::Word, operand)?;
+        let count = self.read_place(turn, Size::Word, place)?;
+        let (shifted, codes) = ashc(self.pair(register), count);
+        self.set_codes(codes);
+        self.set_pair(register, shifted);
+        Ok(())
+    }
+}
