@@ -61,7 +61,9 @@ impl<A: Allocator> Hardware<A> {
         ensures { self.new ≡ counted_back left count self.old }
     {
         if left != 0 {
-            let target = self.register(Register::Pc).wrapping_sub(2 * u16::from(count.words()));
+            let target = self
+                .register(Register::Pc)
+                .wrapping_sub(2 * u16::from(count.words()));
             self.set_register(Register::Pc, target);
         }
     }
