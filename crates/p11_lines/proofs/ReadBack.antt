@@ -6,8 +6,8 @@ use Rattle.std.proofs.lemmas.Bool.{not-true}
 use Rattle.std.proofs.lemmas.Bool.Decides.{nat_tests}
 use Rattle.std.proofs.lemmas.List.Sums.{AllPass-from_list_all}
 use Rattle.p11_lines.specs.declared.line.Line.{Line}
-use Rattle.p11_lines.specs.declared.line.Line.TheVariants.{Examine, Deposit, Start, Step, Regs}
-use Rattle.p11_lines.specs.Grammar.{is_blank, words_of, address_from, word_from, all_words_from, examine_from, deposit_from, start_from, step_from, regs_from, line_from_words, line_from}
+use Rattle.p11_lines.specs.declared.line.Line.TheVariants.{Examine, Deposit, Start, Set, Step, Regs}
+use Rattle.p11_lines.specs.Grammar.{is_blank, words_of, address_from, word_from, all_words_from, examine_from, deposit_from, start_from, set_from, step_from, regs_from, line_from_words, line_from}
 use Rattle.p11_lines.specs.LineText.{octal, line_text, FitsCount, FitsGrammar}
 use Rattle.p11_lines.proofs.Parts.{words_of-word, words_of-last}
 use Rattle.p11_lines.proofs.Numbers.{number_from-Writes, graphs_from-AllDigits, octal-Writes, decimal-Writes, count_from-decimal}
@@ -72,6 +72,11 @@ words_of-start address small =
     words_of-word (codes "start") 32 (octal address) (graphs_from-test (codes "start") refl) (omega arith) refl
     ∙ ap (λ (ws : List (List ℕ)). codes "start" ∷ ws) (words_of-octal address (omega arith))
 
+words_of-set : (register value : ℕ) → register ≤ 65535 → value ≤ 65535 → words_of (codes "set " ++ octal register ++ 32 ∷ octal value) ≡ codes "set" ∷ octal register ∷ octal value ∷ []
+words_of-set register value small fits =
+    words_of-word (codes "set") 32 (octal register ++ 32 ∷ octal value) (graphs_from-test (codes "set") refl) (omega arith) refl
+    ∙ ap (λ (ws : List (List ℕ)). codes "set" ∷ ws) (words_of-octal_more register (octal value) (omega arith) ∙ ap (λ (ws : List (List ℕ)). octal register ∷ ws) (words_of-octal value (omega arith)))
+
 words_of-step : (turns : ℕ) → FitsCount turns → words_of (codes "step " ++ decimal turns) ≡ codes "step" ∷ decimal turns ∷ []
 words_of-step turns fits =
     words_of-word (codes "step") 32 (decimal turns) (graphs_from-test (codes "step") refl) (omega arith) refl
@@ -100,6 +105,10 @@ line_from_words-start : {A : Type 0} (address : ℕ) → address ≤ 65535 → l
 unfolding line_from_words start_from
 line_from_words-start address small = rw (word_from-octal address small) refl
 
+line_from_words-set : {A : Type 0} (register value : ℕ) → register ≤ 65535 → value ≤ 65535 → line_from_words {A = A} (codes "set" ∷ octal register ∷ octal value ∷ []) ≡ Some (Set register value)
+unfolding line_from_words set_from
+line_from_words-set register value small fits = rw (word_from-octal register small, word_from-octal value fits) refl
+
 line_from_words-step : {A : Type 0} (turns : ℕ) → FitsCount turns → line_from_words {A = A} (codes "step" ∷ decimal turns ∷ []) ≡ Some (Step turns)
 unfolding line_from_words step_from
 line_from_words-step turns fits = rw (count_from-decimal turns fits) refl
@@ -114,5 +123,6 @@ line_from-line_text (Examine address count) fits short = line_from-words _ _ _ s
 line_from-line_text (Deposit address []) fits short = absurd (omega (arith, fits.1))
 line_from-line_text (Deposit address (word ∷ words)) fits short = line_from-words _ _ _ short (words_of-deposit address (word ∷ words) fits.0 fits.2) (line_from_words-deposit address word words fits.0 fits.2)
 line_from-line_text (Start address) fits short = line_from-words _ _ _ short (words_of-start address fits) (line_from_words-start address fits)
+line_from-line_text (Set register value) fits short = line_from-words _ _ _ short (words_of-set register value fits.0 fits.1) (line_from_words-set register value fits.0 fits.1)
 line_from-line_text (Step turns) fits short = line_from-words _ _ _ short (words_of-step turns fits) (line_from_words-step turns fits)
 line_from-line_text Regs fits short = line_from-words _ _ _ short words_of-regs line_from_words-regs

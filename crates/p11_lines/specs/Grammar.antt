@@ -5,7 +5,7 @@ use Rattle.std.specs.Str.{bytes_eq}
 use Rattle.std.specs.Char.{digit_value}
 use Rattle.std.specs.Str.Parse.{digits_value}
 use Rattle.p11_lines.specs.declared.line.Line.{Line}
-use Rattle.p11_lines.specs.declared.line.Line.TheVariants.{Examine, Deposit, Start, Step, Regs}
+use Rattle.p11_lines.specs.declared.line.Line.TheVariants.{Examine, Deposit, Start, Set, Step, Regs}
 
 -- the steps of a reading, of which each may find that there is no line
 infixl 10 ◌>>=◌
@@ -88,6 +88,16 @@ start_from (a ∷ []) = do
   Some (Start address)
 start_from (a ∷ more ∷ rest) = None
 
+-- `set R W`
+unfoldable pub set_from : {A : Type 0} → List (List ℕ) → Option (Line A)
+set_from [] = None
+set_from (r ∷ []) = None
+set_from (r ∷ w ∷ []) = do
+  register ← word_from r
+  value ← word_from w
+  Some (Set register value)
+set_from (r ∷ w ∷ more ∷ rest) = None
+
 -- `step N`
 unfoldable pub step_from : {A : Type 0} → List (List ℕ) → Option (Line A)
 step_from [] = None
@@ -108,8 +118,9 @@ line_from_words (name ∷ args) =
     if bytes_eq name (codes "examine") then examine_from args else (
     if bytes_eq name (codes "deposit") then deposit_from args else (
     if bytes_eq name (codes "start") then start_from args else (
+    if bytes_eq name (codes "set") then set_from args else (
     if bytes_eq name (codes "step") then step_from args else (
-    if bytes_eq name (codes "regs") then regs_from args else None))))
+    if bytes_eq name (codes "regs") then regs_from args else None)))))
 
 -- the line that these bytes are, which have no end of line with them
 unfoldable pub line_from : {A : Type 0} → List ℕ → Option (Line A)

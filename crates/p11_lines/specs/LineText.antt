@@ -3,7 +3,7 @@ use Rattle.std.specs.Prelude.{ℕ, ◌≡◌, ◌<◌, ◌≤◌, false, List, �
 use Rattle.std.specs.List.{flat_map}
 use Rattle.std.specs.Fmt.{digits, decimal}
 use Rattle.p11_lines.specs.declared.line.Line.{Line}
-use Rattle.p11_lines.specs.declared.line.Line.TheVariants.{Examine, Deposit, Start, Step, Regs}
+use Rattle.p11_lines.specs.declared.line.Line.TheVariants.{Examine, Deposit, Start, Set, Step, Regs}
 use Rattle.p11_lines.specs.Grammar.{line_from}
 
 -- a number in octal
@@ -14,6 +14,7 @@ unfoldable pub line_text : {A : Type 0} → Line A → List ℕ
 line_text (Examine address count) = codes "examine " ++ octal address ++ 32 ∷ decimal count
 line_text (Deposit address words) = codes "deposit " ++ octal address ++ flat_map (λ word. 32 ∷ octal word) words
 line_text (Start address) = codes "start " ++ octal address
+line_text (Set register value) = codes "set " ++ octal register ++ 32 ∷ octal value
 line_text (Step turns) = codes "step " ++ decimal turns
 line_text Regs = codes "regs"
 
@@ -26,6 +27,7 @@ unfoldable pub FitsGrammar : {A : Type 0} → Line A → Type 0
 FitsGrammar (Examine address count) = (address ≤ 0o777777) × FitsCount count
 FitsGrammar (Deposit address words) = (address ≤ 0o777777) × (0 < length words) × All (λ word. word ≤ 0o177777) words
 FitsGrammar (Start address) = address ≤ 0o177777
+FitsGrammar (Set register value) = (register ≤ 0o177777) × (value ≤ 0o177777)
 FitsGrammar (Step turns) = FitsCount turns
 FitsGrammar Regs = Unit {0}
 

@@ -4,13 +4,14 @@ use Rattle.std.specs.declared.vec.Vec.{Vec}
 use Rattle.p11_lines.specs.declared.fault.Fault.{Fault}
 use Rattle.p11_lines.specs.declared.fault.Fault.TheVariants.{NoMemory, BadLine}
 use Rattle.p11_lines.specs.declared.line.Line.{Line}
-use Rattle.p11_lines.specs.declared.line.Line.TheVariants.{Examine, Deposit, Start, Step, Regs}
+use Rattle.p11_lines.specs.declared.line.Line.TheVariants.{Examine, Deposit, Start, Set, Step, Regs}
 
 -- the line holds a list, for which memory is taken
 abbrev pub holds_list : {A : Type 0} → Line A → Bool
 holds_list (Examine address count) = false
 holds_list (Deposit address words) = true
 holds_list (Start address) = false
+holds_list (Set register value) = false
 holds_list (Step turns) = false
 holds_list Regs = false
 

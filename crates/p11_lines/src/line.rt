@@ -12,6 +12,8 @@ pub enum Line<A: Allocator = Global> {
     Deposit { address: u32, words: Words<A> },
     /// Reset the bus and let the processor begin at an address of 16 bits.
     Start { address: u16 },
+    /// Set the register of a number to a word.
+    Set { register: u16, value: u16 },
     /// Run so many turns.
     Step { turns: u32 },
     /// Show the registers.

@@ -2,7 +2,7 @@
 ghost use Rattle.std.specs.Prelude.{◌≡◌, ◌<◌, ◌≤◌, ◌∷◌, [], length, true, not, is_some, IfSome, MatchOption};
 ghost use Rattle.std.specs.List.{position};
 ghost use Rattle.std.specs.Str.Parse.{digits_value};
-ghost use Rattle.p11_lines.specs.Grammar.{is_blank, words_of, all_digits, number_from, address_from, word_from, count_from, all_words_from, examine_from, deposit_from, start_from, step_from, regs_from, line_from};
+ghost use Rattle.p11_lines.specs.Grammar.{is_blank, words_of, all_digits, number_from, address_from, word_from, count_from, all_words_from, examine_from, deposit_from, start_from, set_from, step_from, regs_from, line_from};
 ghost use Rattle.p11_lines.specs.Reading.{Reads, GivesWords};
 
 use crate::fault::Fault;
@@ -150,6 +150,20 @@ fn start<A: Allocator>(args: &[u8]) -> Option<Line<A>>
     Some(Line::Start { address })
 }
 
+#[tactic(auto, unfolding(crate::specs::Grammar::set_from))]
+fn set<A: Allocator>(args: &[u8]) -> Option<Line<A>>
+    ensures { result ≡ set_from (words_of args.now) }
+{
+    let (first, args) = next_word(args)?;
+    let register = word(first)?;
+    let (second, args) = next_word(args)?;
+    let value = word(second)?;
+    if next_word(args).is_some() {
+        return None;
+    }
+    Some(Line::Set { register, value })
+}
+
 #[tactic(auto, unfolding(crate::specs::Grammar::step_from))]
 fn step<A: Allocator>(args: &[u8]) -> Option<Line<A>>
     ensures { result ≡ step_from (words_of args.now) }
@@ -249,6 +263,9 @@ pub fn parse_line<A: Allocator>(alloc: A, line: &[u8]) -> Result<Line<A>, Fault>
     }
     if name == b"start".as_slice() {
         return start(args).ok_or(Fault::BadLine);
+    }
+    if name == b"set".as_slice() {
+        return set(args).ok_or(Fault::BadLine);
     }
     if name == b"step".as_slice() {
         return step(args).ok_or(Fault::BadLine);

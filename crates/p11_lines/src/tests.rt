@@ -22,7 +22,7 @@ fn lines_of_different_spelling_are_equal(rt: HostRuntime) -> Result<(), Fail> {
 #[test]
 fn each_line_is_read_and_written(rt: HostRuntime) -> Result<(), Fail> {
     let words = Words::from_vec([0o12700, 5].to_vec(rt.alloc())?);
-    let cases: [(&[u8], Line, &[u8]); 7] = [
+    let cases: [(&[u8], Line, &[u8]); 9] = [
         (
             b"examine 1000",
             Line::Examine {
@@ -60,6 +60,22 @@ fn each_line_is_read_and_written(rt: HostRuntime) -> Result<(), Fail> {
             Line::Start { address: 0o177_777 },
             b"start 177777",
         ),
+        (
+            b"set 000011  177777",
+            Line::Set {
+                register: 0o11,
+                value: 0o177_777,
+            },
+            b"set 11 177777",
+        ),
+        (
+            b" set\t177777 0 ",
+            Line::Set {
+                register: 0o177_777,
+                value: 0,
+            },
+            b"set 177777 0",
+        ),
         (b"step 000000001", Line::Step { turns: 1 }, b"step 1"),
         (b" regs ", Line::Regs, b"regs"),
     ];
@@ -74,7 +90,7 @@ fn each_line_is_read_and_written(rt: HostRuntime) -> Result<(), Fail> {
 
 #[test]
 fn what_is_no_line_is_refused(rt: HostRuntime) {
-    let cases: [&[u8]; 33] = [
+    let cases: [&[u8]; 42] = [
         b"",
         b" \t",
         b"# regs",
@@ -103,6 +119,15 @@ fn what_is_no_line_is_refused(rt: HostRuntime) {
         b"start",
         b"start 200000",
         b"start 1000 1",
+        b"set",
+        b"set 0",
+        b"set 8 0",
+        b"set 0 8",
+        b"set 0 200000",
+        b"set 200000 0",
+        b"set 0000000 1",
+        b"set 0 0 0",
+        b"sets 0 0",
         b"step",
         b"step 0",
         b"step 000000000",

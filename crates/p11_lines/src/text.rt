@@ -31,6 +31,7 @@ pub fn line_of<A: Allocator>(alloc: A, line: &Line<A>) -> Result<Vec<u8, A>, NoM
             text
         }
         Line::Start { address } => format!(in alloc; "start {address:o}")?,
+        Line::Set { register, value } => format!(in alloc; "set {register:o} {value:o}")?,
         Line::Step { turns } => format!(in alloc; "step {turns}")?,
         Line::Regs => format!(in alloc; "regs")?,
     };
