@@ -2,7 +2,7 @@
 -- answers where it is not refused.
 use Rattle.std.specs.Prelude.{◌≡◌, ℕ, ◌+◌, ◌-◌, ◌*◌, ◌%◌, ◌<◌, ◌^◌, ◌⊎◌, List, length, Bool, ◌&&◌, ◌||◌, not, nat_lt, nat_le, ◌==◌, Option, None, Some, MatchOption, if◌then◌else◌}
 use Rattle.p11_lines.specs.declared.fault.Fault.{Fault}
-use Rattle.p11_lines.specs.declared.fault.Fault.TheVariants.{TooMany, OddAddress, NoAnswer, NoMemory}
+use Rattle.p11_lines.specs.declared.fault.Fault.TheVariants.{TooMany, OddAddress, NoAnswer, BadRegister, NoMemory}
 use Rattle.p11_lines.specs.declared.answer.Answer.{Answer}
 use Rattle.p11_lines.specs.declared.answer.Answer.TheVariants as answers
 use Rattle.p11_lines.specs.declared.answer.Mark.{Mark}
@@ -11,7 +11,7 @@ use Rattle.p11_lines.specs.declared.answer.Registers.{Registers}
 use Rattle.p11_lines.specs.declared.answer.StopReason.{StopReason}
 use Rattle.p11_psw.specs.Status.{status_word}
 use Rattle.p11_cpu.specs.State.{State, Processor}
-use Rattle.p11_cpu.specs.Operator.{examine_of, start_of}
+use Rattle.p11_cpu.specs.Operator.{examine_of, start_of, console_register, set_reg_of}
 use Rattle.p11_panel.specs.declared.command.Command.{Command}
 use Rattle.p11_panel.specs.declared.command.Command.TheVariants as commands
 use Rattle.p11_panel.specs.Ranges.{all_answer, words_at, deposited}
@@ -82,6 +82,11 @@ IsDone done after answer s' = (answer ≡ done) × (s' ≡ after)
 abbrev pub Examines : {A : Type 0} → ℕ → ℕ → State → Answer A → State → Type 0
 Examines address n s answer s' = IsDone (shown address n s) s answer s' ⊎ ((1 < n) × IsRefused NoMemory s answer s')
 
+-- SET writes a word to the register of a number, where one has it
+abbrev pub Sets : {A : Type 0} → ℕ → ℕ → State → Answer A → State → Type 0
+Sets number word s answer s' =
+    MatchOption (console_register number) (IsRefused BadRegister s answer s') (λ register. IsDone answers.Done (set_reg_of register word s) answer s')
+
 -- STEP makes a run of n turns, and answers its reason, how many turns were made, and PC
 abbrev pub Steps : {A : Type 0} → ℕ → State → Answer A → State → Type 0
 Steps n s answer s' =
@@ -95,6 +100,7 @@ Acts s (commands.Deposit address words) answer s' =
     MatchOption (deposit_fault address words s) (IsDone answers.Done (deposited address words s) answer s') (λ fault. IsRefused fault s answer s')
 Acts s (commands.Start address) answer s' =
     MatchOption (start_fault address) (IsDone answers.Done (start_of address s) answer s') (λ fault. IsRefused fault s answer s')
+Acts s (commands.Set number word) answer s' = Sets number word s answer s'
 Acts s (commands.Step n) answer s' =
     MatchOption (step_fault n s) (Steps n s answer s') (λ fault. IsRefused fault s answer s')
 Acts s commands.Regs answer s' = IsDone (answers.Registers (registers_of s)) s answer s'

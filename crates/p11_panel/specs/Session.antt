@@ -31,6 +31,7 @@ unfoldable pub command_of : {A : Type 0} → Line A → Command A
 command_of (lines.Examine address count) = commands.Examine address count
 command_of (lines.Deposit address words) = commands.Deposit address words
 command_of (lines.Start address) = commands.Start address
+command_of (lines.Set register value) = commands.Set register value
 command_of (lines.Step turns) = commands.Step turns
 command_of lines.Regs = commands.Regs
 

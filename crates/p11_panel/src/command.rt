@@ -10,6 +10,9 @@ pub enum Command<A: Allocator = Global> {
     Deposit { address: u32, words: Words<A> },
     /// Reset the bus and set PC to an even address.
     Start { address: u16 },
+    /// Set the register of a number (octal): 0 to 5, the kernel's stack pointer 6, PC 7, the user's stack pointer 10, or the
+    /// processor status word 11, of which bits 11:8 stay 0.
+    Set { register: u16, value: u16 },
     /// Run so many turns: 1 to 100,000,000.
     Step { turns: u32 },
     /// Show the processor's registers.

@@ -7,7 +7,7 @@ use crate::command::Command;
 use crate::config::Config;
 use crate::refusal::start_refusal;
 use crate::run::run;
-use p11_cpu::Machine;
+use p11_cpu::{ConsoleRegister, Machine};
 use p11_lines::{Answer, Fault, Mark, NoMemory, Registers, Words};
 use std::alloc::{Allocator, Global};
 use std::marker::Model;
@@ -79,6 +79,7 @@ impl<A: Allocator + Copy> Panel<A> {
             Command::Examine { address, count } => self.examine(alloc, *address, *count),
             Command::Deposit { address, words } => self.deposit(*address, words.as_slice()),
             Command::Start { address } => self.start(*address),
+            Command::Set { register, value } => self.set(*register, *value),
             Command::Step { turns } => self.step(*turns),
             Command::Regs => Answer::Registers(self.registers()),
         }
@@ -133,6 +134,17 @@ impl<A: Allocator + Copy> Panel<A> {
             return Answer::Refused(fault);
         }
         self.machine.start(address);
+        Answer::Done
+    }
+
+    /// SET.
+    fn set(&mut self, register: u16, value: u16) -> Answer<A>
+        ensures { Acts self.old (Command.Set register value) result self.new }
+    {
+        let Some(register) = ConsoleRegister::numbered(register) else {
+            return Answer::Refused(Fault::BadRegister);
+        };
+        self.machine.set_reg(register, value);
         Answer::Done
     }
 

@@ -47,6 +47,7 @@ fn command<A: Allocator>(line: Line<A>) -> Command<A>
         Line::Examine { address, count } => Command::Examine { address, count },
         Line::Deposit { address, words } => Command::Deposit { address, words },
         Line::Start { address } => Command::Start { address },
+        Line::Set { register, value } => Command::Set { register, value },
         Line::Step { turns } => Command::Step { turns },
         Line::Regs => Command::Regs,
     }

@@ -141,6 +141,32 @@ fn each_line_is_refused_in_its_order(rt: HostRuntime) -> Result<(), Fail> {
 }
 
 #[test]
+fn each_register_is_set_by_its_number(rt: HostRuntime) -> Result<(), Fail> {
+    let script =
+        b"set 0 1\nset 1 2\nset 2 3\nset 3 4\nset 4 5\nset 5 177777\nset 6 1000\nset 7 1001\nset 10 160000\nset 11 177777\nregs\n";
+    let (written, answered) = run_script(rt.alloc(), script)?;
+    assert_eq!(rt;
+        written.as_slice(),
+        b"OK\nOK\nOK\nOK\nOK\nOK\nOK\nOK\nOK\nOK\nREGS 000001 000002 000003 000004 000005 177777\nSP 001000 160000 PC 001001 PS 170377\nTURN 0 ready\n".as_slice()
+    );
+    assert_eq!(rt; answered, Ok(11));
+    Ok(())
+}
+
+#[test]
+fn a_number_that_no_register_has_is_refused(rt: HostRuntime) -> Result<(), Fail> {
+    let script =
+        b"set 5 7\nset 12 0\nset 177777 1\nset 8 0\nset 0\nset 0 200000\nset 0 0 0\nregs\n";
+    let (written, answered) = run_script(rt.alloc(), script)?;
+    assert_eq!(rt;
+        written.as_slice(),
+        b"OK\n? 11 BadRegister\n? 11 BadRegister\n? 13 BadLine\n? 13 BadLine\n? 13 BadLine\n? 13 BadLine\nREGS 000000 000000 000000 000000 000000 000007\nSP 000000 000000 PC 000000 PS 000000\nTURN 0 ready\n".as_slice()
+    );
+    assert_eq!(rt; answered, Ok(8));
+    Ok(())
+}
+
+#[test]
 fn lines_end_by_lf_with_a_cr_before_it(rt: HostRuntime) -> Result<(), Fail> {
     let (written, answered) = run_script(
         rt.alloc(),
@@ -348,6 +374,24 @@ fn commands_made_by_hand_are_refused(rt: HostRuntime) -> Result<(), Fail> {
     assert!(rt; matches!(panel.act(alloc, &no_words), Answer::Refused(Fault::TooMany)));
     let no_turns = Command::Step { turns: 0 };
     assert!(rt; matches!(panel.act(alloc, &no_turns), Answer::Refused(Fault::TooMany)));
+    let no_register = Command::Set {
+        register: 0o12,
+        value: 0,
+    };
+    assert!(rt;
+        matches!(
+            panel.act(alloc, &no_register),
+            Answer::Refused(Fault::BadRegister)
+        )
+    );
+    let pc = Command::Set {
+        register: 7,
+        value: 0o1000,
+    };
+    assert!(rt; matches!(panel.act(alloc, &pc), Answer::Done));
+    assert!(rt;
+        matches!(panel.act(alloc, &Command::Regs), Answer::Registers(registers) if registers.pc == 0o1000)
+    );
     let past = Command::Examine {
         address: 0o777_777_776,
         count: 2,
