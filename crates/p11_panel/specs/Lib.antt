@@ -1,5 +1,6 @@
 pub mod Sizes
 pub mod Runs
+pub mod Laws
 pub mod Ranges
 pub mod Commands
 pub mod Play

@@ -3,6 +3,7 @@
 
 mod command;
 mod config;
+mod laws;
 mod line_buffer;
 mod panel;
 mod playing;
@@ -15,6 +16,7 @@ mod tests;
 
 pub use command::Command;
 pub use config::Config;
+pub use laws::a_run_has_one_outcome;
 pub use p11_lines::{
     Answer, Fault, Line, Mark, NoMemory, Registers, StopReason, Words, line_of, parse_line,
 };
