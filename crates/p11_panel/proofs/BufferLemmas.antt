@@ -1,5 +1,5 @@
 -- What is kept of a line.
-use Rattle.std.proofs.Common.{◌≡◌, ◌≤◌, ◌<◌, ◌+◌, ◌-◌, arith, ℕ, Bool, true, false, ltb, leb, eqb, ◌⊎◌, List, [], ◌∷◌, ◌++◌, length, take, get_or, Option, Some, None, refl, sym, ap, inl, inr}
+use Rattle.std.proofs.Common.{◌≡◌, ◌≤◌, ◌<◌, ◌+◌, ◌-◌, arith, ℕ, leb, eqb, ◌⊎◌, List, [], ◌∷◌, ◌++◌, length, take, get_or, Option, Some, None, refl, inl, inr}
 use Rattle.std.proofs.lemmas.Bool.{cases_Bool, cases_lt, cases_eq, cases_cond, cond_both, leb-false, lt-ltb, le-leb, lt-leb, le-ltb}
 use Rattle.std.proofs.lemmas.List.{length-take, length_push}
 use Rattle.p11_panel.specs.Buffer.{kept, pushed}

@@ -1,10 +1,10 @@
 -- Ranges of addresses whose words all answer.
-use Rattle.std.proofs.Common.{◌≡◌, ℕ, zero, suc, ◌+◌, ◌*◌, ◌<◌, List, [], ◌∷◌, ◌++◌, Bool, true, false, ◌&&◌, length, take, get_or, rules, refl, ap, sym, ◌∙◌, arith, inl, inr}
+use Rattle.std.proofs.Common.{◌≡◌, ℕ, zero, suc, ◌+◌, ◌*◌, ◌<◌, List, [], ◌∷◌, ◌++◌, Bool, true, false, ◌&&◌, length, take, get_or, rules, refl, ap, ◌∙◌, arith, inl, inr}
 use Rattle.std.proofs.lemmas.Bool.{cases_lt}
 use Rattle.std.proofs.lemmas.List.{take_more}
 use Rattle.p11_cpu.specs.State.{State}
 use Rattle.p11_cpu.specs.Operator.{answers_of, deposit_of}
-use Rattle.p11_panel.specs.Ranges.{answers_at, all_answer, words_at, deposited}
+use Rattle.p11_panel.specs.Ranges.{answers_at, all_answer, deposited}
 
 and_true-left : (a b : Bool) → (a && b) ≡ true → a ≡ true
 and_true-left true b e = refl

@@ -1,10 +1,10 @@
 -- One more turn of a run.
-use Rattle.std.proofs.Common.{◌≡◌, ◌≢◌, ℕ, zero, suc, ◌+◌, ◌<◌, ◌≤◌, Bool, true, false, ◌==◌, Option, Some, None, if◌then◌else◌, refl, ap, subst, sym, ◌∙◌, arith, inl, inr, add-one}
+use Rattle.std.proofs.Common.{◌≡◌, ℕ, suc, ◌+◌, ◌<◌, true, false, ◌==◌, Some, None, if◌then◌else◌, refl, ap, subst, sym, ◌∙◌, arith, inl, inr, add-one}
 use Rattle.std.proofs.lemmas.Bool.{cases_lt}
 use Rattle.p11_lines.specs.declared.answer.StopReason.{StopReason}
 use Rattle.p11_lines.specs.declared.answer.StopReason.TheVariants as reasons
 use Rattle.p11_cpu.specs.declared.turn.Turn.{Turn}
-use Rattle.p11_cpu.specs.declared.turn.Turn.TheVariants.{Ran, Halted, Trapped}
+use Rattle.p11_cpu.specs.declared.turn.Turn.TheVariants.{Ran}
 use Rattle.p11_cpu.specs.State.{State}
 use Rattle.p11_cpu.specs.Turns.{turn_of}
 use Rattle.p11_panel.specs.Runs.{after_turns, stop_at, stop_of, IsRun}

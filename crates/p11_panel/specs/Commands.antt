@@ -1,6 +1,6 @@
 -- The operator's commands: what each is refused for, in the order in which the refusals are tried, and what it does and
 -- answers where it is not refused.
-use Rattle.std.specs.Prelude.{◌≡◌, ℕ, ◌+◌, ◌-◌, ◌*◌, ◌%◌, ◌<◌, ◌^◌, ◌⊎◌, List, length, Bool, ◌&&◌, ◌||◌, not, nat_lt, nat_le, ◌==◌, Option, None, Some, MatchOption, if◌then◌else◌}
+use Rattle.std.specs.Prelude.{◌≡◌, ℕ, ◌+◌, ◌-◌, ◌*◌, ◌%◌, ◌<◌, ◌⊎◌, List, length, Bool, ◌&&◌, nat_lt, nat_le, ◌==◌, Option, None, Some, MatchOption, if◌then◌else◌}
 use Rattle.p11_lines.specs.declared.fault.Fault.{Fault}
 use Rattle.p11_lines.specs.declared.fault.Fault.TheVariants.{TooMany, OddAddress, NoAnswer, BadRegister, NoMemory}
 use Rattle.p11_lines.specs.declared.answer.Answer.{Answer}

@@ -1,4 +1,3 @@
-use Rattle.std.proofs.Common.{◌≡◌}
 use Rattle.p11_panel.proofs.PlayLemmas.{plays_nothing, plays_more}
 use Rattle.p11_panel.proofs.playing.play.Goals as goal
 

@@ -1,4 +1,4 @@
-use Rattle.std.proofs.Common.{◌≡◌, ◌+◌, arith, refl}
+use Rattle.std.proofs.Common.{arith, refl}
 use Rattle.p11_panel.proofs.RunLemmas.{no_turn, one_more, last_turn, all_made}
 use Rattle.p11_panel.proofs.run.run.Goals as goal
 

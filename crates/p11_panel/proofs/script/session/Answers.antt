@@ -1,4 +1,4 @@
-use Rattle.std.proofs.Common.{◌≡◌, arith, take, ◌++◌}
+use Rattle.std.proofs.Common.{arith, take, ◌++◌}
 use Rattle.std.proofs.lemmas.Grind.{common_steps}
 use Rattle.std.proofs.KnownBytes.{Consumes-trans}
 use Rattle.p11_panel.proofs.SessionLemmas.{reached_none, reached_more, consumes_zero, broke_script}

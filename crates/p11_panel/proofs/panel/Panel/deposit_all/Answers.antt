@@ -1,4 +1,4 @@
-use Rattle.std.proofs.Common.{◌≡◌, ◌∙◌}
+use Rattle.std.proofs.Common.{◌∙◌}
 use Rattle.p11_panel.proofs.RangeLemmas.{all_answer_at, all_answer_kept, deposited_more}
 use Rattle.p11_panel.proofs.panel.Panel.deposit_all.Goals as goal
 
