@@ -107,8 +107,8 @@ impl<A: Allocator> Hardware<A> {
     {
         let link = self.register(register);
         self.set_register(Register::Pc, link);
-        let word = self.pop(turn)?;
-        self.set_register(register, word);
+        let saved = self.pop(turn)?;
+        self.set_register(register, saved);
         Ok(())
     }
 
@@ -119,8 +119,8 @@ impl<A: Allocator> Hardware<A> {
     {
         let pc = self.register(Register::Pc);
         self.set_register(Register::Sp, pc.wrapping_add(2 * u16::from(count.words())));
-        let link = self.register(Register::R5);
-        self.set_register(Register::Pc, link);
+        let frame = self.register(Register::R5);
+        self.set_register(Register::Pc, frame);
         let word = self.pop(turn)?;
         self.set_register(Register::R5, word);
         Ok(())
