@@ -6,14 +6,12 @@ use std::alloc::{Allocator, Global};
 /// Why a run stopped.
 #[derive(Clone, Copy, Debug, PartialEq, Eq)]
 pub enum StopReason {
-    /// A HALT in kernel mode.
+    /// The machine has halted: by HALT in kernel mode, or since a fatal service met a trap.
     Halt,
     /// All the turns that were asked for are made.
     Turns,
     /// A growth that the next turn needs was refused.
     Memory,
-    /// A trap that isn't served.
-    Trap,
 }
 
 /// What the processor does between turns.
@@ -23,7 +21,7 @@ pub enum Mark {
     Ready,
     /// A WAIT was run, and no service has ended it.
     Waiting,
-    /// A HALT was run, and no turn since.
+    /// The last turn has halted the machine.
     Halted,
 }
 

@@ -105,7 +105,6 @@ fn reason_name(reason: StopReason) -> &'static str
         StopReason::Halt => "halt",
         StopReason::Turns => "turns",
         StopReason::Memory => "memory",
-        StopReason::Trap => "trap",
     }
 }
 

@@ -265,7 +265,7 @@ fn each_answer_is_written(rt: HostRuntime) -> Result<(), Fail> {
         turns: 0,
         ..registers()
     };
-    let cases: [(Answer, &[u8]); 11] = [
+    let cases: [(Answer, &[u8]); 10] = [
         (Answer::Done, b"OK\n"),
         (
             Answer::Word {
@@ -287,7 +287,6 @@ fn each_answer_is_written(rt: HostRuntime) -> Result<(), Fail> {
             b"STOP turns 100000000 001012\n",
         ),
         (stop(StopReason::Memory, 79), b"STOP memory 79 001012\n"),
-        (stop(StopReason::Trap, 0), b"STOP trap 0 001012\n"),
         (
             Answer::Registers(registers()),
             b"REGS 000014 000001 177777 100000 012345 000070\nSP 000700 160000 PC 001012 PS 140017\nTURN 4611686018427387904 halted\n",

@@ -3,7 +3,7 @@ use Rattle.std.specs.Prelude.{◌≡◌, ℕ, zero, suc, ◌<◌, Option, None, 
 use Rattle.p11_lines.specs.declared.answer.StopReason.{StopReason}
 use Rattle.p11_lines.specs.declared.answer.StopReason.TheVariants as reasons
 use Rattle.p11_cpu.specs.declared.turn.Turn.{Turn}
-use Rattle.p11_cpu.specs.declared.turn.Turn.TheVariants.{Ran, Halted, Trapped}
+use Rattle.p11_cpu.specs.declared.turn.Turn.TheVariants.{Ran, Halted}
 use Rattle.p11_cpu.specs.State.{State}
 use Rattle.p11_cpu.specs.Turns.{turn_of}
 
@@ -15,10 +15,9 @@ after_turns (suc k) s = (turn_of (after_turns k s)).0
 -- why a run of n turns stops after a turn that ended so, when k are made
 abbrev pub stop_at : ℕ → ℕ → Turn → Option StopReason
 stop_at n k Halted = Some reasons.Halt
-stop_at n k Trapped = Some reasons.Trap
 stop_at n k Ran = if k == n then Some reasons.Turns else None
 
--- Why a run of n turns from s stops when k are made, if it does: the last of them halted or trapped, or n are made.
+-- Why a run of n turns from s stops when k are made, if it does: the last of them halted, or n are made.
 unfoldable pub stop_of : ℕ → ℕ → State → Option StopReason
 stop_of n zero s = stop_at n zero Ran
 stop_of n (suc k) s = stop_at n (suc k) (turn_of (after_turns k s)).1

@@ -73,43 +73,68 @@ fn blank_lines_and_remarks_have_no_answer(rt: HostRuntime) -> Result<(), Fail> {
 }
 
 #[test]
-fn a_word_that_is_not_run_stops_the_run(rt: HostRuntime) -> Result<(), Fail> {
-    let (written, _) = run_script(
-        rt.alloc(),
-        b"deposit 1000 3\nstart 1000\nstep 5\nregs\nstep 5\n",
-    )?;
+fn a_breakpoint_enters_its_handler(rt: HostRuntime) -> Result<(), Fail> {
+    // BPT, whose handler halts at once; the next run goes on behind it.
+    let script =
+        b"deposit 14 2000 340\ndeposit 1000 3\nset 6 700\nstart 1000\nstep 5\nregs\nexamine 674 2\nstep 5\n";
+    let (written, answered) = run_script(rt.alloc(), script)?;
     assert_eq!(rt;
         written.as_slice(),
-        b"OK\nOK\nSTOP trap 1 001002\nREGS 000000 000000 000000 000000 000000 000000\nSP 000000 000000 PC 001002 PS 000000\nTURN 1 ready\nSTOP halt 1 001004\n".as_slice()
+        b"OK\nOK\nOK\nOK\nSTOP halt 2 002002\nREGS 000000 000000 000000 000000 000000 000000\nSP 000674 000000 PC 002002 PS 000340\nTURN 2 halted\nEXAM 000674 001002\nEXAM 000676 000000\nSTOP halt 1 002004\n".as_slice()
     );
+    assert_eq!(rt; answered, Ok(8));
     Ok(())
 }
 
 #[test]
-fn an_operand_in_another_mode_is_not_touched(rt: HostRuntime) -> Result<(), Fail> {
-    // MOV #1000,R0; MOV (R0)+,(R1): the destination's mode is not run, so the source is not stepped either.
-    let (written, _) = run_script(
-        rt.alloc(),
-        b"deposit 1000 12700 1000 12011\nstart 1000\nstep 5\nregs\n",
-    )?;
+fn a_word_is_written_at_the_address_in_a_register(rt: HostRuntime) -> Result<(), Fail> {
+    // MOV #1000,R0; MOV (R0)+,(R1).
+    let script = b"deposit 1000 12700 1000 12011\nstart 1000\nstep 5\nregs\nexamine 0\n";
+    let (written, answered) = run_script(rt.alloc(), script)?;
     assert_eq!(rt;
         written.as_slice(),
-        b"OK\nOK\nSTOP trap 2 001006\nREGS 001000 000000 000000 000000 000000 000000\nSP 000000 000000 PC 001006 PS 000000\nTURN 2 ready\n".as_slice()
+        b"OK\nOK\nSTOP halt 3 001010\nREGS 001002 000000 000000 000000 000000 000000\nSP 000000 000000 PC 001010 PS 000000\nTURN 3 halted\nEXAM 000000 012700\n".as_slice()
     );
+    assert_eq!(rt; answered, Ok(5));
     Ok(())
 }
 
 #[test]
 fn a_stepped_register_stays_stepped_after_a_fault(rt: HostRuntime) -> Result<(), Fail> {
-    // MOV #1,R0; MOV (R0)+,R1 reads a word at an odd address; the next run goes on at PC.
-    let (written, _) = run_script(
-        rt.alloc(),
-        b"deposit 1000 12700 1 12001\nstart 1000\nstep 5\nregs\nstep 1\n",
-    )?;
+    // MOV #1,R0; MOV (R0)+,R1 reads a word at an odd address, and the handler of bus errors halts.
+    let script =
+        b"deposit 4 2000\ndeposit 1000 12700 1 12001\nset 6 700\nstart 1000\nstep 5\nregs\nexamine 674 2\nstep 1\n";
+    let (written, answered) = run_script(rt.alloc(), script)?;
     assert_eq!(rt;
         written.as_slice(),
-        b"OK\nOK\nSTOP trap 2 001006\nREGS 000003 000000 000000 000000 000000 000000\nSP 000000 000000 PC 001006 PS 000000\nTURN 2 ready\nSTOP halt 1 001010\n".as_slice()
+        b"OK\nOK\nOK\nOK\nSTOP halt 3 002002\nREGS 000003 000000 000000 000000 000000 000000\nSP 000674 000000 PC 002002 PS 000000\nTURN 3 halted\nEXAM 000674 001006\nEXAM 000676 000000\nSTOP halt 1 002004\n".as_slice()
     );
+    assert_eq!(rt; answered, Ok(8));
+    Ok(())
+}
+
+#[test]
+fn a_halt_in_user_mode_is_a_trap(rt: HostRuntime) -> Result<(), Fail> {
+    let script =
+        b"deposit 10 2000\ndeposit 1000 0\nset 6 700\nset 7 1000\nset 11 140000\nset 10 600\nstep 5\nregs\nexamine 674 2\n";
+    let (written, answered) = run_script(rt.alloc(), script)?;
+    assert_eq!(rt;
+        written.as_slice(),
+        b"OK\nOK\nOK\nOK\nOK\nOK\nSTOP halt 2 002002\nREGS 000000 000000 000000 000000 000000 000000\nSP 000674 000600 PC 002002 PS 030000\nTURN 2 halted\nEXAM 000674 001002\nEXAM 000676 140000\n".as_slice()
+    );
+    assert_eq!(rt; answered, Ok(9));
+    Ok(())
+}
+
+#[test]
+fn a_waiting_processor_waits_until_a_start(rt: HostRuntime) -> Result<(), Fail> {
+    let script = b"deposit 1000 1\nstart 1000\nstep 3\nregs\nstep 2\nstart 1000\nregs\n";
+    let (written, answered) = run_script(rt.alloc(), script)?;
+    assert_eq!(rt;
+        written.as_slice(),
+        b"OK\nOK\nSTOP turns 3 001002\nREGS 000000 000000 000000 000000 000000 000000\nSP 000000 000000 PC 001002 PS 000000\nTURN 3 waiting\nSTOP turns 2 001002\nOK\nREGS 000000 000000 000000 000000 000000 000000\nSP 000000 000000 PC 001000 PS 000000\nTURN 5 ready\n".as_slice()
+    );
+    assert_eq!(rt; answered, Ok(7));
     Ok(())
 }
 

@@ -8,9 +8,6 @@ loop-made-init g c = record { turns = omega arith; goes = no_turn _ _ }
 pub returns-in-Halted : goal.returns-in-Halted
 returns-in-Halted g c = last_turn _ _ _ _ _ _ _ c.loop-made-test.true c.loop-made.invariant.goes c.in-Halted.ensures.turn refl
 
-pub returns-in-Trapped : goal.returns-in-Trapped
-returns-in-Trapped g c = last_turn _ _ _ _ _ _ _ c.loop-made-test.true c.loop-made.invariant.goes c.in-Trapped.ensures.turn refl
-
 pub loop-made-preserved : goal.loop-made-preserved
 loop-made-preserved g c =
     record {
