@@ -1,0 +1,51 @@
+// Scripts on a new machine, and all that their sessions write.
+use p11_panel::{Config, NoMemory, Panel, session};
+use std::alloc::Global;
+use std::process::Abort;
+use std::test::Fail;
+
+/// A name, a script, and the answers that it has on a new machine.
+pub(crate) type Session = (&'static str, &'static str, &'static str);
+
+/// All that the session over a script writes, on a new machine of 28 thousand words.
+fn answers(alloc: Global, script: &str) -> Result<Vec<u8>, NoMemory> {
+    let Ok(config) = Config::new(28, 1024) else {
+        return Err(NoMemory);
+    };
+    let mut panel = Panel::new(alloc, config)?;
+    let mut reader = script.as_bytes();
+    let mut written = Vec::new(alloc);
+    match session(alloc, &mut panel, &mut reader, &mut written) {
+        Ok(_) => Ok(written),
+        Err(_) => Err(NoMemory),
+    }
+}
+
+/// Asserts that the session over a script writes this, and nothing else.
+pub(crate) fn compare(
+    rt: &impl Abort,
+    alloc: Global,
+    name: &str,
+    script: &str,
+    expected: &str,
+) -> Result<(), Fail> {
+    let written = answers(alloc, script)?;
+    assert_eq!(rt;
+        str::from_utf8(written.as_slice()),
+        Ok(expected),
+        "{name}: {script}"
+    );
+    Ok(())
+}
+
+/// Asserts that of each session.
+pub(crate) fn compare_all(
+    rt: &impl Abort,
+    alloc: Global,
+    sessions: &[Session],
+) -> Result<(), Fail> {
+    for &(name, script, expected) in sessions {
+        compare(rt, alloc, name, script, expected)?;
+    }
+    Ok(())
+}
