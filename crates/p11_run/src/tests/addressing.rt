@@ -336,17 +336,16 @@ fn script_of<'a>(
 }
 
 /// Asserts what each instruction with a source leaves.
-fn try_sources(
-    rt: &impl Abort,
-    alloc: Global,
-    pointers: &str,
-    rows: &[&str],
-) -> Result<(), Fail> {
+fn try_sources(rt: &impl Abort, alloc: Global, pointers: &str, rows: &[&str]) -> Result<(), Fail> {
     for row in rows {
         let mut columns = row.split_whitespace();
         let (name, script) = script_of(alloc, pointers, &mut columns)?;
         let (r0, r2) = (next(&mut columns)?, next(&mut columns)?);
-        let (sp, pc, status) = (next(&mut columns)?, next(&mut columns)?, next(&mut columns)?);
+        let (sp, pc, status) = (
+            next(&mut columns)?,
+            next(&mut columns)?,
+            next(&mut columns)?,
+        );
         let expected = format!(in alloc;
             "OK\nOK\nOK\nOK\nOK\nOK\nOK\nOK\nOK\nSTOP turns 1 {pc}\nREGS {r0} 000000 {r2} 000000 000000 000000\n\
              SP {sp} 000000 PC {pc} PS {status}\nTURN 1 ready\n"
