@@ -12,11 +12,11 @@ const WORDS: &str = "3000 3002 3004 3006";
 const BYTES: &str = "3001 3003 3005 3007";
 
 /// What is pointed to, at 3000, and where an instruction points that is its own pointer.
-const POINTED: &str =
-    "deposit 3000 100421 101042 101463 102104\ndeposit 15702 1234\ndeposit 105256 1234\ndeposit 115702 1234\n";
+const POINTED: &str = "deposit 3000 100421 101042 101463 102104\ndeposit 15702 1234\n\
+                       deposit 105256 1234\ndeposit 115702 1234\n";
 
-// The columns of a table of sources: the operand, the instruction, the word behind it, R0 and SP before it, and R0, R2, SP,
-// PC and the status after it.
+// The columns of a table of sources: the operand, the instruction, the word behind it, R0 and SP before it, and R0, R2,
+// SP, PC and the status after it.
 
 /// MOV of the operand to R2.
 static WORD_SOURCES: [&str; 24] = [
@@ -74,8 +74,8 @@ static BYTE_SOURCES: [&str; 24] = [
     "@A     117702 001000  000000 000000  000000 177603 000000 001004 000010",
 ];
 
-// The columns of a table of destinations: the operand, the instruction, the word behind it, R0 and SP before it, R0, SP, PC
-// and the status after it, and an address with the word there after it.
+// The columns of a table of destinations: the operand, the instruction, the word behind it, R0 and SP before it, R0,
+// SP, PC and the status after it, and an address with the word there after it.
 
 /// INC of the operand.
 static WORD_DESTINATIONS: [&str; 23] = [
@@ -330,7 +330,8 @@ fn script_of<'a>(
     let (instruction, behind) = (next(columns)?, next(columns)?);
     let (r0, sp) = (next(columns)?, next(columns)?);
     let script = format!(in alloc;
-        "deposit 2000 {pointers}\n{POINTED}deposit 1000 {instruction} {behind}\nset 0 {r0}\nset 6 {sp}\nstart 1000\nstep 1\nregs\n"
+        "deposit 2000 {pointers}\n{POINTED}deposit 1000 {instruction} {behind}\nset 0 {r0}\nset 6 {sp}\n\
+         start 1000\nstep 1\nregs\n"
     )?;
     Ok((name, script))
 }

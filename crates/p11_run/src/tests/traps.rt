@@ -4,8 +4,8 @@ use std::alloc::Global;
 use std::process::Abort;
 use std::test::Fail;
 
-/// What traps at 1000 with the codes Z and C set: a name, the vector, the instruction's words, and the PC and the status that
-/// are pushed.
+/// What traps at 1000 with the codes Z and C set: a name, the vector, the instruction's words, the PC and the status
+/// that are pushed.
 type Entry = (
     &'static str,
     &'static str,
@@ -13,7 +13,7 @@ type Entry = (
     (&'static str, &'static str),
 );
 
-static ENTRIES: [Entry; 27] = [
+static ENTRIES: [Entry; 14] = [
     ("a reserved word", "10", "7", ("001002", "000005")),
     ("BPT", "14", "3", ("001002", "000005")),
     ("IOT", "20", "4", ("001002", "000005")),
@@ -21,86 +21,19 @@ static ENTRIES: [Entry; 27] = [
     ("the last EMT", "30", "104377", ("001002", "000005")),
     ("the first TRAP", "34", "104400", ("001002", "000005")),
     ("the last TRAP", "34", "104777", ("001002", "000005")),
-    (
-        "a word at an odd address",
-        "4",
-        "5037 2001",
-        ("001004", "000004"),
-    ),
-    (
-        "an address where nothing answers",
-        "4",
-        "5737 160000",
-        ("001004", "000005"),
-    ),
+    ("an odd address", "4", "5037 2001", ("001004", "000004")),
+    ("a bus time-out", "4", "5737 160000", ("001004", "000005")),
     ("a jump to a register", "4", "100", ("001002", "000005")),
     ("a call of a register", "4", "4500", ("001002", "000005")),
     ("MFPI", "10", "6500", ("001002", "000005")),
     ("MTPI", "10", "6600", ("001002", "000005")),
-    (
-        "MFPI of an operand in memory",
-        "10",
-        "6537 2000",
-        ("001002", "000005"),
-    ),
-    ("the reserved word 10", "10", "10", ("001002", "000005")),
-    ("the reserved word 210", "10", "210", ("001002", "000005")),
-    ("the reserved word 230", "10", "230", ("001002", "000005")),
-    ("the reserved word 7000", "10", "7000", ("001002", "000005")),
-    (
-        "the reserved word 75000",
-        "10",
-        "75000",
-        ("001002", "000005"),
-    ),
-    (
-        "the reserved word 76000",
-        "10",
-        "76000",
-        ("001002", "000005"),
-    ),
-    (
-        "the reserved word 106400",
-        "10",
-        "106400",
-        ("001002", "000005"),
-    ),
-    (
-        "the reserved word 106500",
-        "10",
-        "106500",
-        ("001002", "000005"),
-    ),
-    (
-        "the reserved word 106600",
-        "10",
-        "106600",
-        ("001002", "000005"),
-    ),
-    (
-        "the reserved word 106700",
-        "10",
-        "106700",
-        ("001002", "000005"),
-    ),
-    (
-        "the reserved word 107000",
-        "10",
-        "107000",
-        ("001002", "000005"),
-    ),
-    (
-        "the reserved word 170000",
-        "10",
-        "170000",
-        ("001002", "000005"),
-    ),
-    (
-        "the reserved word 177777",
-        "10",
-        "177777",
-        ("001002", "000005"),
-    ),
+    ("MFPI of memory", "10", "6537 2000", ("001002", "000005")),
+];
+
+/// Words of no instruction.
+static RESERVED: [&str; 14] = [
+    "10", "77", "210", "230", "7000", "75000", "76000", "106400", "106500", "106600", "106700",
+    "107000", "170000", "177777",
 ];
 
 /// Vectors and the mode in which a frame is pushed.
@@ -1102,23 +1035,37 @@ static FAULTS: [Session; 12] = [
     ),
 ];
 
+/// Asserts that these words at 1000 trap through the vector, and what is pushed.
+fn is_trapped(
+    rt: &impl Abort,
+    alloc: Global,
+    &(name, vector, words, (pc, status)): &Entry,
+) -> Result<(), Fail> {
+    let script = format!(in alloc;
+        "deposit {vector} 3000 340\ndeposit 1000 {words}\nset 6 700\nstart 1000\nset 11 5\nstep 1\nregs\n\
+         examine 674 2\n"
+    )?;
+    let expected = format!(in alloc;
+        "OK\nOK\nOK\nOK\nOK\nSTOP turns 1 003000\nREGS 000000 000000 000000 000000 000000 000000\n\
+         SP 000674 000000 PC 003000 PS 000340\nTURN 1 ready\nEXAM 000674 {pc}\nEXAM 000676 {status}\n"
+    )?;
+    compare(rt, alloc, name, script.as_str(), expected.as_str())
+}
+
 #[test]
 fn each_vector_is_entered(rt: HostRuntime) -> Result<(), Fail> {
-    let alloc = rt.alloc();
-    for &(name, vector, words, (pc, status)) in &ENTRIES {
-        let script = format!(in alloc;
-            "deposit {vector} 3000 340\ndeposit 1000 {words}\nset 6 700\nstart 1000\nset 11 5\n\
-             step 1\nregs\nexamine 674 2\n"
-        )?;
-        let expected = format!(in alloc;
-            "OK\nOK\nOK\nOK\nOK\nSTOP turns 1 003000\n\
-             REGS 000000 000000 000000 000000 000000 000000\n\
-             SP 000674 000000 PC 003000 PS 000340\nTURN 1 ready\n\
-             EXAM 000674 {pc}\nEXAM 000676 {status}\n"
-        )?;
-        compare(&rt, alloc, name, script.as_str(), expected.as_str())?;
+    for entry in &ENTRIES {
+        is_trapped(&rt, rt.alloc(), entry)?;
     }
     compare_all(&rt, rt.alloc(), &VECTORS)
+}
+
+#[test]
+fn reserved_words_trap_through_10(rt: HostRuntime) -> Result<(), Fail> {
+    for &word in &RESERVED {
+        is_trapped(&rt, rt.alloc(), &(word, "10", word, ("001002", "000005")))?;
+    }
+    Ok(())
 }
 
 #[test]
