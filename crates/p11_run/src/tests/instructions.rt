@@ -17,7 +17,7 @@ type ImmediateTrial = (&'static str, (u16, u16), Registers, Registers);
 type Branch = (&'static str, u16, u16, u16);
 
 /// The operand is R0.
-static WORDS: [Trial; 39] = [
+static WORDS: [Trial; 40] = [
     ("CLR", 0o5000, (0o123456, 0, 0o17), (0, 0, 4)),
     ("COM", 0o5100, (0o123456, 0, 0o16), (0o54321, 0, 1)),
     ("COM", 0o5100, (0o177777, 0, 0), (0, 0, 5)),
@@ -55,6 +55,7 @@ static WORDS: [Trial; 39] = [
     ("SWAB", 0o300, (0o777, 0, 0o17), (0o177401, 0, 0)),
     ("SWAB", 0o300, (0o100000, 0, 3), (0o200, 0, 0o10)),
     ("SWAB", 0o300, (0o377, 0, 0), (0o177400, 0, 4)),
+    ("SXT", 0o6700, (5, 0, 0o11), (0o177777, 0, 0o11)),
     ("SXT", 0o6700, (5, 0, 0o13), (0o177777, 0, 0o11)),
     ("SXT", 0o6700, (5, 0, 7), (0, 0, 5)),
 ];
@@ -223,7 +224,13 @@ static CODES: [Trial; 16] = [
 ];
 
 /// The register is R0 or R1, and the operand a number.
-static IMMEDIATE: [ImmediateTrial; 38] = [
+static IMMEDIATE: [ImmediateTrial; 42] = [
+    (
+        "MOVB",
+        (0o112700, 0o200),
+        (0o77777, 1, 0),
+        (0o177600, 1, 0o10),
+    ),
     (
         "MUL",
         (0o70027, 0o177776),
@@ -238,6 +245,7 @@ static IMMEDIATE: [ImmediateTrial; 38] = [
         (0o40000, 0, 1),
     ),
     ("MUL", (0o70027, 0), (0o123456, 7, 0o13), (0, 0, 4)),
+    ("MUL", (0o70127, 0o200), (0, 0o400, 0), (0, 0o100000, 1)),
     (
         "MUL",
         (0o70127, 0o200),
@@ -289,6 +297,7 @@ static IMMEDIATE: [ImmediateTrial; 38] = [
     ("DIV", (0o71127, 3), (0o11, 1, 0), (0o11, 2, 0)),
     ("ASH", (0o72027, 2), (0o60000, 0, 0), (0o100000, 0, 0o13)),
     ("ASH", (0o72027, 1), (0o140001, 0, 0), (0o100002, 0, 0o11)),
+    ("ASH", (0o72027, 0), (0o100000, 0, 1), (0o100000, 0, 0o10)),
     ("ASH", (0o72027, 0), (0o100000, 0, 3), (0o100000, 0, 0o10)),
     (
         "ASH",
@@ -324,6 +333,7 @@ static IMMEDIATE: [ImmediateTrial; 38] = [
     ),
     ("ASHC", (0o73027, 0o37), (0, 1, 0), (0o100000, 0, 0o12)),
     ("ASHC", (0o73027, 0o37), (0, 2, 0), (0, 0, 7)),
+    ("ASHC", (0o73127, 0o177777), (0, 1, 0), (0, 0o100000, 1)),
     (
         "ASHC",
         (0o73127, 0o177777),
