@@ -1,5 +1,6 @@
 ghost use Rattle.std.specs.Prelude.{◌≡◌};
 ghost use Rattle.p11_run.specs.Endings.{status_of, text_of};
+ghost use Rattle.p11_run.specs.declared.ending.Cause.TheVariants as causes;
 
 use p11_panel::{Fault, NoMemory, SessionFault};
 use std::alloc::{AllocError, AllocFailed};
@@ -42,24 +43,32 @@ pub fn ending(cause: &Cause) -> (u8, &str)
 }
 
 impl From<NoMemory> for Cause {
+    ghost from_gives = { λ _ e. e ≡ causes.NoMemory };
+
     fn from(_: NoMemory) -> Self {
         Cause::NoMemory
     }
 }
 
 impl<T: Drop> From<AllocFailed<T>> for Cause {
+    ghost from_gives = { λ _ e. e ≡ causes.NoMemory };
+
     fn from(_: AllocFailed<T>) -> Self {
         Cause::NoMemory
     }
 }
 
 impl From<AllocError> for Cause {
+    ghost from_gives = { λ _ e. e ≡ causes.NoMemory };
+
     fn from(_: AllocError) -> Self {
         Cause::NoMemory
     }
 }
 
 impl From<SessionFault> for Cause {
+    ghost from_gives = { λ fault e. e ≡ causes.Session fault };
+
     fn from(fault: SessionFault) -> Self {
         Cause::Session(fault)
     }
