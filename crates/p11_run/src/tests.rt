@@ -2,5 +2,8 @@
 mod addressing;
 mod command_line;
 mod instructions;
+mod jumps;
 mod sessions;
+mod stack;
+mod status;
 mod traps;
