@@ -1,5 +1,5 @@
-ghost use Rattle.std.specs.Prelude.{◌≡◌, ◌≤◌, ◌<◌, ◌*◌, ◌/◌, ◌%◌, ◌^◌, ◌==◌, ◌&&◌, ◌||◌, not};
-ghost use Rattle.p11_kw11.specs.LineClock.{clock_after_service, clock_after_tick, clock_after_write, clock_word, flag_number, new_clock};
+ghost use Rattle.std.specs.Prelude.{◌≡◌, ◌≤◌, ◌<◌, ◌^◌, ◌&&◌, ◌||◌, not};
+ghost use Rattle.p11_kw11.specs.LineClock.{bit_of, clock_after_init, clock_after_service, clock_after_tick, clock_after_write, clock_word, flag, new_clock};
 
 use std::marker::Model;
 
@@ -10,7 +10,7 @@ const MONITOR: u32 = 7;
 const ENABLE: u32 = 6;
 
 /// A KW11-L line clock. Its one register, the status register, shows the monitor bit in bit 7 and the interrupt enable
-/// in bit 6. It interrupts through vector 100 at level 6.
+/// in bit 6. It interrupts at level 6 through vector 100 (octal).
 #[derive(Debug, Drop)]
 pub struct Kw11 {
     monitor: bool,
@@ -26,19 +26,18 @@ impl Model for Kw11 {
     ghost view = { λ k. record { monitor = k.monitor; enable = k.enable; request = k.request } };
 }
 
-/// The flag as a bit at this place.
-fn flag_bit(flag: bool, place: u32) -> u16
-    requires { place < 8 }
-    ensures value { result ≡ flag_number flag * 2 ^ place }
-    ensures bound { result ≤ 2 ^ place }
+/// The flag as a bit of this weight.
+fn flag(is_set: bool, weight: u16) -> u16
+    ensures value { result ≡ flag is_set weight }
+    ensures bound { result ≤ weight }
 {
-    if flag { 1 << place } else { 0 }
+    if is_set { weight } else { 0 }
 }
 
-/// Whether the word's bit at this place is set.
-fn flag_at(word: u16, place: u32) -> bool
+/// Whether the word's bit at this place, whose weight is a power of 2, is set.
+fn bit(word: u16, place: u32) -> bool
     requires { place < 16 }
-    ensures { result ≡ (word / 2 ^ place % 2 == 1) }
+    ensures { result ≡ bit_of word (2 ^ place) }
 {
     word >> place & 1 == 1
 }
@@ -51,9 +50,6 @@ fn requests(requested: bool, was_enabled: bool, monitor: bool, enable: bool) -> 
 }
 
 impl Kw11 {
-    /// The bus address of the status register.
-    pub const ADDRESS: u32 = 0o777546;
-
     /// A new clock: monitor set, interrupts disabled.
     #[tactic(auto, unfolding(crate::specs::LineClock::new_clock))]
     pub fn new() -> Self
@@ -71,7 +67,7 @@ impl Kw11 {
     pub fn read(&self) -> u16
         ensures { result ≡ clock_word self.now }
     {
-        flag_bit(self.monitor, MONITOR) + flag_bit(self.enable, ENABLE)
+        flag(self.monitor, 1 << MONITOR) + flag(self.enable, 1 << ENABLE)
     }
 
     /// Writes the status register: bit 6 is taken, and a 0 in bit 7 clears the monitor bit.
@@ -80,8 +76,8 @@ impl Kw11 {
         ensures { self.new ≡ clock_after_write word self.old }
     {
         let was_enabled = self.enable;
-        self.monitor &= flag_at(word, MONITOR);
-        self.enable = flag_at(word, ENABLE);
+        self.monitor &= bit(word, MONITOR);
+        self.enable = bit(word, ENABLE);
         self.request = requests(self.request, was_enabled, self.monitor, self.enable);
     }
 
@@ -110,9 +106,9 @@ impl Kw11 {
     }
 
     /// INIT on the bus: as a new clock.
-    #[tactic(auto, unfolding(crate::specs::LineClock::new_clock))]
+    #[tactic(auto, unfolding(crate::specs::LineClock::clock_after_init))]
     pub fn init(&mut self)
-        ensures { self.new ≡ new_clock }
+        ensures { self.new ≡ clock_after_init self.old }
     {
         *self = Kw11::new();
     }

@@ -2,7 +2,11 @@
 #![tactic(auto)]
 
 mod clock;
+mod laws;
+mod register;
 #[cfg(test)]
 mod tests;
 
 pub use clock::Kw11;
+pub use laws::init_twice_is_init_once;
+pub use register::Register;

@@ -1,9 +1,10 @@
-use crate::Kw11;
+use crate::{Kw11, Register};
 
 /// A new clock, and each way in which a request comes and goes.
 #[test]
 fn register_and_request(rt: HostRuntime) {
-    assert_eq!(rt; Kw11::ADDRESS, 0o777546);
+    assert_eq!(rt; Register::at(0o777546), Some(Register::Status));
+    assert_eq!(rt; Register::at(0o777547), None);
     let mut clock = Kw11::new();
     assert_eq!(rt; clock.read(), 0o200);
     assert!(rt; !clock.request());

@@ -1,0 +1,22 @@
+ghost use Rattle.std.specs.Prelude.{◌≡◌};
+ghost use Rattle.p11_kw11.specs.LineClock.{register_at};
+
+/// A register of the line clock.
+#[derive(Clone, Copy, Debug, PartialEq, Eq)]
+pub enum Register {
+    /// LKS, 777546: bit 7 monitor, bit 6 interrupt enable.
+    Status,
+}
+
+impl Register {
+    /// The register at a bus address of 18 bits, if it is the clock's.
+    #[tactic(auto, unfolding(crate::specs::LineClock::register_at))]
+    pub fn at(address: u32) -> Option<Register>
+        ensures { result ≡ register_at address }
+    {
+        match address {
+            0o777546 => Some(Register::Status),
+            _ => None,
+        }
+    }
+}
