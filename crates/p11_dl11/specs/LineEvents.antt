@@ -6,9 +6,10 @@ use Rattle.p11_dl11.specs.declared.register.Register.TheVariants.{ReceiverStatus
 use Rattle.p11_dl11.specs.declared.register.Section.{Section}
 use Rattle.p11_dl11.specs.declared.register.Section.TheVariants.{Receiver, Transmitter}
 use Rattle.p11_dl11.specs.LineState.{LineState}
-use Rattle.p11_dl11.specs.ReceiverEvents.{most_keys, new_receiver, receiver_after_init, receiver_status, receiver_after_key, receiver_after_read, receiver_after_enable, receiver_after_service, receiver_after_turn}
-use Rattle.p11_dl11.specs.StatusRegister.{written_enable}
-use Rattle.p11_dl11.specs.TransmitterEvents.{new_transmitter, transmitter_status, transmitter_after_enable, transmitter_after_character, transmitter_after_service, transmitter_after_turn}
+use Rattle.p11_dl11.specs.ReceiverEvents.{most_keys, new_receiver, receiver_after_init, receiver_after_key, receiver_after_read, receiver_after_enable, receiver_after_service, receiver_after_turn}
+use Rattle.p11_dl11.specs.StatusRegister.{bit_of, section_word}
+use Rattle.p11_dl11.specs.TransmitterState.{is_ready}
+use Rattle.p11_dl11.specs.TransmitterEvents.{new_transmitter, transmitter_after_enable, transmitter_after_character, transmitter_after_service, transmitter_after_turn}
 
 -- a new machine's console line
 unfoldable pub new_line : LineState
@@ -25,32 +26,35 @@ keys_full = record {}
 -- A key is pressed. It is refused where as many keys wait as may.
 unfoldable pub line_after_key : ℕ → LineState → LineState × Result (Unit {0}) KeysFull
 line_after_key key l =
-    if nat_lt (length l.receiver.keys) most_keys then (record l { receiver = receiver_after_key key l.receiver }, Ok tt) else (l, Err keys_full)
+    if nat_lt (length l.receiver.keys) most_keys
+    then (record l { receiver = receiver_after_key key l.receiver }, Ok tt) else (l, Err keys_full)
 
 -- the word that a register shows
-unfoldable pub shown : Register → LineState → ℕ
-shown ReceiverStatus l = receiver_status l.receiver
-shown ReceiverBuffer l = l.receiver.character
-shown TransmitterStatus l = transmitter_status l.transmitter
-shown TransmitterBuffer l = 0
+unfoldable pub line_word : Register → LineState → ℕ
+line_word ReceiverStatus l = section_word l.receiver.done l.receiver.enable
+line_word ReceiverBuffer l = l.receiver.character
+line_word TransmitterStatus l = section_word (is_ready l.transmitter) l.transmitter.enable
+line_word TransmitterBuffer l = 0
 
 -- a program or the operator reads a register: the receiver buffer alone has a side effect
 unfoldable pub line_after_read : Register → LineState → LineState
-line_after_read ReceiverStatus l = l
 line_after_read ReceiverBuffer l = record l { receiver = receiver_after_read l.receiver }
-line_after_read TransmitterStatus l = l
-line_after_read TransmitterBuffer l = l
+line_after_read _ l = l
 
 -- A word is written to a register in this turn. The receiver buffer can't be written.
 unfoldable pub line_after_write : ℕ → Register → ℕ → LineState → LineState
-line_after_write turn ReceiverStatus word l = record l { receiver = receiver_after_enable (written_enable word) l.receiver }
+line_after_write turn ReceiverStatus word l =
+    record l { receiver = receiver_after_enable (bit_of word 0o100) l.receiver }
 line_after_write turn ReceiverBuffer word l = l
-line_after_write turn TransmitterStatus word l = record l { transmitter = transmitter_after_enable (written_enable word) l.transmitter }
-line_after_write turn TransmitterBuffer word l = record l { transmitter = transmitter_after_character turn (word % 256) l.transmitter }
+line_after_write turn TransmitterStatus word l =
+    record l { transmitter = transmitter_after_enable (bit_of word 0o100) l.transmitter }
+line_after_write turn TransmitterBuffer word l =
+    record l { transmitter = transmitter_after_character turn (word % 256) l.transmitter }
 
 -- the line in this turn: the receiver acts, then the transmitter
 unfoldable pub line_after_turn : ℕ → LineState → LineState
-line_after_turn turn l = record { receiver = receiver_after_turn turn l.receiver; transmitter = transmitter_after_turn turn l.transmitter }
+line_after_turn turn l =
+    record { receiver = receiver_after_turn turn l.receiver; transmitter = transmitter_after_turn turn l.transmitter }
 
 -- whether a section requests an interrupt
 abbrev pub line_requests : Section → LineState → Bool

@@ -1,7 +1,7 @@
 -- What happens to the receiver.
 use Rattle.std.specs.Prelude.{ℕ, ◌+◌, ◌-◌, Bool, true, false, ◌&&◌, ◌||◌, not, List, [], ◌∷◌, ◌++◌, length, Option, Some, None, if◌then◌else◌, nat_le, max}
 use Rattle.p11_dl11.specs.ReceiverState.{ReceiverState}
-use Rattle.p11_dl11.specs.StatusRegister.{status_word, request_after_enable}
+use Rattle.p11_dl11.specs.StatusRegister.{request_after_enable}
 
 -- so many keys may wait
 abbrev pub most_keys : ℕ
@@ -18,10 +18,6 @@ new_receiver = record { done = false; enable = false; request = false; character
 -- INIT clears done, enable, the request and the buffer; the waiting keys and the next turn stay
 unfoldable pub receiver_after_init : ReceiverState → ReceiverState
 receiver_after_init r = record r { done = false; enable = false; request = false; character = 0 }
-
--- the word of the receiver status register
-abbrev pub receiver_status : ReceiverState → ℕ
-receiver_status r = status_word r.done r.enable
 
 -- a key is pressed, and waits behind the others
 unfoldable pub receiver_after_key : ℕ → ReceiverState → ReceiverState

@@ -2,16 +2,12 @@
 use Rattle.std.specs.Prelude.{ℕ, ◌+◌, Bool, false, ◌==◌, ◌||◌, Option, Some, None, if◌then◌else◌}
 use Rattle.p11_dl11.specs.declared.transmitter.Sending.{Sending}
 use Rattle.p11_dl11.specs.ReceiverEvents.{character_turns}
-use Rattle.p11_dl11.specs.StatusRegister.{status_word, request_after_enable}
+use Rattle.p11_dl11.specs.StatusRegister.{request_after_enable}
 use Rattle.p11_dl11.specs.TransmitterState.{TransmitterState, is_ready}
 
 -- a new machine's transmitter, and the state after INIT: ready, disabled, no request, a character being sent forgotten
 unfoldable pub new_transmitter : TransmitterState
 new_transmitter = record { enable = false; request = false; sending = None }
-
--- the word of the transmitter status register
-abbrev pub transmitter_status : TransmitterState → ℕ
-transmitter_status t = status_word (is_ready t) t.enable
 
 -- a write of the transmitter status register with this enable
 unfoldable pub transmitter_after_enable : Bool → TransmitterState → TransmitterState

@@ -12,8 +12,8 @@ mod tests;
 mod transmitter;
 
 pub use laws::{
-    due_turns_are_later, init_twice_is_init_once, nothing_happens_before_due,
-    receiver_acts_when_due, transmitter_acts_when_due,
+    due_turns_are_later, due_turns_stay_until_due, init_twice_is_init_once,
+    nothing_happens_before_due, receiver_acts_when_due, transmitter_acts_when_due,
 };
 pub use line::{Dl11, KeysFull};
 pub use register::{Register, Section};

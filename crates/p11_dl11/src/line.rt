@@ -1,5 +1,5 @@
-ghost use Rattle.std.specs.Prelude.{◌≡◌, ◌≤◌, ◌<◌, ◌^◌, ◌+◌, length, IfOk, IsOk};
-ghost use Rattle.p11_dl11.specs.LineEvents.{line_after_init, line_after_key, line_after_read, line_after_service, line_after_turn, line_after_write, line_requests, new_line, shown};
+ghost use Rattle.std.specs.Prelude.{◌≡◌, ◌≤◌, ◌<◌, ◌^◌, ◌+◌, length, IfOk, IsOk, is_some};
+ghost use Rattle.p11_dl11.specs.LineEvents.{line_after_init, line_after_key, line_after_read, line_after_service, line_after_turn, line_after_write, line_requests, line_word, new_line};
 ghost use Rattle.p11_dl11.specs.ReceiverEvents.{receiver_due, receiver_room};
 ghost use Rattle.p11_dl11.specs.TransmitterEvents.{transmitter_due, typed_in};
 
@@ -17,8 +17,8 @@ use thiserror::Error;
 pub struct KeysFull;
 
 /// A DL11 with a terminal: keys that are pressed wait until a program reads them, and characters that a program writes
-/// are typed. Up to 64 keys wait, and a character takes 64 turns on the line in either direction. Turns are counted from
-/// the time when the machine was made, up to 2^62.
+/// are typed. Up to 64 keys wait, and a character takes 64 turns on the line in either direction. Turns are counted
+/// from the time when the machine was made, up to 2^62.
 #[derive(Debug, Drop)]
 pub struct Dl11<A: Allocator = Global> {
     receiver: Receiver<A>,
@@ -67,9 +67,9 @@ impl<A: Allocator> Dl11<A> {
     }
 
     /// The word that `read` would give, without its side effect.
-    #[tactic(auto, unfolding(crate::specs::LineEvents::shown))]
+    #[tactic(auto, unfolding(crate::specs::LineEvents::line_word))]
     pub fn peek(&self, register: Register) -> u16
-        ensures { result ≡ shown register self.now }
+        ensures { result ≡ line_word register self.now }
     {
         match register {
             Register::ReceiverStatus => self.receiver.status(),
@@ -82,7 +82,7 @@ impl<A: Allocator> Dl11<A> {
     /// Reads a register. Reading the receiver buffer clears done and drops the receiver's request.
     #[tactic(auto, unfolding(crate::specs::LineEvents::line_after_read))]
     pub fn read(&mut self, register: Register) -> u16
-        ensures word { result ≡ shown register self.old }
+        ensures word { result ≡ line_word register self.old }
         ensures state { self.new ≡ line_after_read register self.old }
     {
         let word = self.peek(register);
@@ -123,6 +123,13 @@ impl<A: Allocator> Dl11<A> {
         ensures { result ≡ (receiver_due turn self.now.receiver, transmitter_due self.now.transmitter) }
     {
         (self.receiver.due(turn), self.transmitter.due())
+    }
+
+    /// Whether a character will be typed in this turn, if the line acts in it.
+    pub fn types_in(&self, turn: u64) -> bool
+        ensures { result ≡ is_some (typed_in turn self.now.transmitter) }
+    {
+        self.transmitter.types_in(turn)
     }
 
     /// Whether a section requests an interrupt.

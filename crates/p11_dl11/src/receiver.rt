@@ -1,9 +1,10 @@
 //! The receiver section: keys come in.
 ghost use Rattle.std.specs.Prelude.{◌≡◌, ◌≤◌, ◌<◌, ◌^◌, ◌+◌, length, IfOk};
-ghost use Rattle.p11_dl11.specs.ReceiverEvents.{new_receiver, receiver_after_enable, receiver_after_init, receiver_after_key, receiver_after_read, receiver_after_service, receiver_after_turn, receiver_due, receiver_room, receiver_status};
+ghost use Rattle.p11_dl11.specs.ReceiverEvents.{new_receiver, receiver_after_enable, receiver_after_init, receiver_after_key, receiver_after_read, receiver_after_service, receiver_after_turn, receiver_due, receiver_room};
+ghost use Rattle.p11_dl11.specs.StatusRegister.{section_word};
 
 use crate::keys::{Keys, MOST_KEYS};
-use crate::status::{requests, status_bits};
+use crate::status::{requests, section_word};
 use std::alloc::{AllocError, Allocator, Global};
 use std::marker::Model;
 
@@ -25,7 +26,14 @@ impl<A: Allocator> Model for Receiver<A> {
 
     ghost Value = { ReceiverState };
 
-    ghost view = { λ r. record { done = r.done; enable = r.enable; request = r.request; character = r.character; keys = r.keys; next_turn = r.next_turn } };
+    ghost view = { λ r. record {
+      done = r.done;
+      enable = r.enable;
+      request = r.request;
+      character = r.character;
+      keys = r.keys;
+      next_turn = r.next_turn;
+    } };
 }
 
 impl<A: Allocator> Receiver<A> {
@@ -69,9 +77,9 @@ impl<A: Allocator> Receiver<A> {
     }
 
     pub(crate) fn status(&self) -> u16
-        ensures { result ≡ receiver_status self.now }
+        ensures { result ≡ section_word self.now.done self.now.enable }
     {
-        status_bits(self.done, self.enable)
+        section_word(self.done, self.enable)
     }
 
     pub(crate) fn character(&self) -> u16

@@ -1,29 +1,40 @@
 //! What the two status registers have in common.
-ghost use Rattle.std.specs.Prelude.{◌≡◌, ◌/◌, ◌%◌, ◌==◌, ◌<◌};
-ghost use Rattle.p11_dl11.specs.StatusRegister.{request_after_enable, status_word, written_enable};
+ghost use Rattle.std.specs.Prelude.{◌≡◌, ◌≤◌, ◌<◌, ◌^◌};
+ghost use Rattle.p11_dl11.specs.StatusRegister.{bit_of, flag, request_after_enable, section_word};
 
-/// The place of the interrupt enable.
-const ENABLE: u32 = 6;
-
-/// The word of a status register: the flag in bit 7, the enable in bit 6.
-pub(crate) fn status_bits(flag: bool, enable: bool) -> u16
-    ensures { result ≡ status_word flag enable }
+/// The flag as a bit of this weight.
+fn flag(is_set: bool, weight: u16) -> u16
+    ensures value { result ≡ flag is_set weight }
+    ensures bound { result ≤ weight }
 {
-    let flag_bit: u16 = if flag { 0o200 } else { 0 };
-    let enable_bit = if enable { 0o100 } else { 0 };
-    flag_bit + enable_bit
+    if is_set { weight } else { 0 }
 }
 
-/// The enable in a word that is written to a status register.
+/// Whether the word's bit at this place, whose weight is a power of 2, is set.
+fn bit(word: u16, place: u32) -> bool
+    requires { place < 16 }
+    ensures { result ≡ bit_of word (2 ^ place) }
+{
+    word >> place & 1 == 1
+}
+
+/// The word of a section's status register: done or ready in bit 7, the enable in bit 6.
+pub(crate) fn section_word(attention: bool, enable: bool) -> u16
+    ensures { result ≡ section_word attention enable }
+{
+    flag(attention, 0o200) + flag(enable, 0o100)
+}
+
+/// The enable in a word that is written to a status register, its bit 6.
 pub(crate) fn enable_in(word: u16) -> bool
-    ensures { result ≡ written_enable word }
+    ensures { result ≡ bit_of word 0o100 }
 {
-    word >> ENABLE & 1 == 1
+    bit(word, 6)
 }
 
-/// The request after a write of the enable, from the request and the enable before it and the flag.
-pub(crate) fn requests(request: bool, was_enabled: bool, flag: bool, enable: bool) -> bool
-    ensures { result ≡ request_after_enable request was_enabled flag enable }
+/// The request after a write of the enable, from the request and the enable before it and done or ready.
+pub(crate) fn requests(request: bool, was_enabled: bool, attention: bool, enable: bool) -> bool
+    ensures { result ≡ request_after_enable request was_enabled attention enable }
 {
-    enable && (request || flag && !was_enabled)
+    enable && (request || attention && !was_enabled)
 }

@@ -72,6 +72,7 @@ fn typed_after_64_turns(rt: HostRuntime) -> Result<(), Fail> {
         assert_eq!(rt; line.act(turn), None, "in turn {turn}");
     }
     line.write(63, Register::TransmitterBuffer, 0o177501);
+    assert!(rt; line.types_in(64) && !line.types_in(65));
     assert_eq!(rt; line.act(64), Some(0o101));
     assert_eq!(rt; registers(&line), (0, 0, 0o200, 0));
     assert_eq!(rt; requests(&line), (false, false));

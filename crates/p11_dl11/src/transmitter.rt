@@ -1,10 +1,11 @@
 //! The transmitter section: characters are typed.
-ghost use Rattle.std.specs.Prelude.{◌≡◌, ◌≤◌, ◌^◌};
+ghost use Rattle.std.specs.Prelude.{◌≡◌, ◌≤◌, ◌^◌, is_some};
 ghost use Rattle.p11_dl11.specs.TransmitterState.{is_ready};
-ghost use Rattle.p11_dl11.specs.TransmitterEvents.{new_transmitter, sending_after, transmitter_after_character, transmitter_after_enable, transmitter_after_service, transmitter_after_turn, transmitter_due, transmitter_status, typed_in, typed_of};
+ghost use Rattle.p11_dl11.specs.TransmitterEvents.{new_transmitter, sending_after, transmitter_after_character, transmitter_after_enable, transmitter_after_service, transmitter_after_turn, transmitter_due, typed_in, typed_of};
+ghost use Rattle.p11_dl11.specs.StatusRegister.{section_word};
 
 use crate::receiver::CHARACTER_TURNS;
-use crate::status::{requests, status_bits};
+use crate::status::{requests, section_word};
 use std::marker::Model;
 
 /// A character that is being sent, with the turn in which it is typed.
@@ -75,9 +76,9 @@ impl Transmitter {
     }
 
     pub(crate) fn status(&self) -> u16
-        ensures { result ≡ transmitter_status self.now }
+        ensures { result ≡ section_word (is_ready self.now) self.now.enable }
     {
-        status_bits(self.is_ready(), self.enable)
+        section_word(self.is_ready(), self.enable)
     }
 
     #[tactic(auto, unfolding(crate::specs::TransmitterEvents::transmitter_after_enable))]
@@ -119,6 +120,14 @@ impl Transmitter {
         self.request |= self.enable;
         self.sending = None;
         Some(typed)
+    }
+
+    /// Whether a character is due in this turn.
+    #[tactic(auto, unfolding(crate::specs::TransmitterEvents::typed_in))]
+    pub(crate) fn types_in(&self, turn: u64) -> bool
+        ensures { result ≡ is_some (typed_in turn self.now) }
+    {
+        typed_now(self.sending, turn).is_some()
     }
 
     /// The turn in which a character is typed, if nothing else happens.
