@@ -1,13 +1,13 @@
 -- Words of a sector and of memory, a step at a time.
-use Rattle.std.proofs.Common.{◌≡◌, ℕ, zero, suc, ◌+◌, ◌-◌, ◌*◌, ◌<◌, ◌≤◌, Bool, true, false, List, [], ◌∷◌, ◌++◌, length, map, take, drop, set, replicate, get_or, Option, Some, None, is_some, refl, sym, ap, ◌∙◌, arith, add-one, inl, inr}
-use Rattle.std.specs.Prelude.{◌&&◌, not, ◌==◌, if◌then◌else◌, IsSome, unwrap_or, slice_index}
+use Rattle.std.proofs.Common.{◌≡◌, ℕ, zero, suc, ◌+◌, ◌-◌, ◌*◌, ◌/◌, ◌<◌, ◌≤◌, Bool, true, false, List, [], ◌∷◌, ◌++◌, length, map, take, drop, set, replicate, get_or, refl, sym, ap, ◌∙◌, arith, add-one, inl, inr}
+use Rattle.std.specs.Prelude.{◌&&◌, not, slice_index}
 use Rattle.std.specs.List.{range_with_len}
 use Rattle.std.proofs.lemmas.Bool.{cases_lt}
-use Rattle.std.proofs.lemmas.List.{append_assoc, ext_get_or, take_at}
+use Rattle.std.proofs.lemmas.List.{append_assoc, ext_get_or, length-set, take_at}
 use Rattle.std.proofs.Math.Seq.{set-append_seam}
 use Rattle.std.proofs.lemmas.List.FromFn.{get_or-map-range_with_len, length-map-range_with_len, map-range_with_len_more}
 use Rattle.byteorder.specs.Endian.{little_number, IsRead}
-use Rattle.p11_rk11.specs.Memory.{Words, word_at, stored, all_stored, all_held}
+use Rattle.p11_rk11.specs.Memory.{Words, has_word, word_at, stored, all_stored, all_held}
 use Rattle.p11_rk11.specs.Sector.{words_of_sector, words_from, sector_from}
 
 -- 256 words that were read are the sector's words
@@ -19,40 +19,40 @@ words_read bytes words len read =
     (λ i lt. read i lt ∙ sym (get_or-map-range_with_len f 0 256 i i 0 (omega (arith, len)) (omega arith)))
 
 -- one address more is memory
-pub held_more : (address : ℕ → ℕ) (words : Words) (n a : ℕ) → a ≡ address n → all_held address n words ≡ true → is_some (words a) ≡ true → all_held address (n + 1) words ≡ true
+pub held_more : (address : ℕ → ℕ) (words : Words) (n a : ℕ) → a ≡ address n → all_held address n words ≡ true → has_word words a ≡ true → all_held address (n + 1) words ≡ true
 unfolding all_held
 held_more address words n a at before this =
-    rw (add-one n) (ap (λ b. b && is_some (words (address n))) before ∙ ap (λ x. is_some (words x)) (sym at) ∙ this)
+    rw (add-one n) (ap (λ b. b && has_word words (address n)) before ∙ ap (λ x. has_word words x) (sym at) ∙ this)
 
 both_hold : (a b : Bool) → a && b ≡ true → (a ≡ true) × (b ≡ true)
 both_hold true b h = (refl, h)
 both_hold false b h = cc h
 
 -- each of the addresses is memory
-pub held_at : (address : ℕ → ℕ) (words : Words) (n k : ℕ) → all_held address n words ≡ true → k < n → is_some (words (address k)) ≡ true
+pub held_at : (address : ℕ → ℕ) (words : Words) (n k : ℕ) → all_held address n words ≡ true → k < n → has_word words (address k) ≡ true
 unfolding all_held
 held_at address words zero k held lt = absurd (omega arith)
 held_at address words (suc n) k held lt =
-    let parts = both_hold (all_held address n words) (is_some (words (address n))) held in
+    let parts = both_hold (all_held address n words) (has_word words (address n)) held in
     elim (cases_lt k n) [
       | inl below ↦ held_at address words n k parts.0 below
       | inr at ↦ let e : k ≡ n = omega arith in rw e parts.1
     ]
 
 -- where one isn't, not all are
-pub not_held : (address : ℕ → ℕ) (words : Words) (n k a : ℕ) → a ≡ address k → k < n → is_some (words a) ≡ false → false ≡ all_held address n words
+pub not_held : (address : ℕ → ℕ) (words : Words) (n k a : ℕ) → a ≡ address k → k < n → has_word words a ≡ false → false ≡ all_held address n words
 not_held address words n k a at lt none =
     elim (all_held address n words) as (λ t. all_held address n words ≡ t → false ≡ t) [
-      | true ↦ λ e. sym none ∙ ap (λ x. is_some (words x)) at ∙ held_at address words n k e lt
+      | true ↦ λ e. sym none ∙ ap (λ x. has_word words x) at ∙ held_at address words n k e lt
       | false ↦ λ e. refl
     ] refl
 
 -- memory that was there is there after a store
-pub stored_held : (words : Words) (a w b : ℕ) → is_some (words b) ≡ true → is_some (stored words a w b) ≡ true
-unfolding stored
-stored_held words a w b h = elim (b == a) as (λ t. is_some (if t then Some w else words b) ≡ true) [ true ↦ refl | false ↦ h ]
+pub stored_held : (words : Words) (a w b : ℕ) → has_word words b ≡ true → has_word (stored words a w) b ≡ true
+unfolding stored has_word
+stored_held words a w b h = rw (length-set words (a / 2) w) h
 
-pub all_stored_held : (address : ℕ → ℕ) (list : List ℕ) (n : ℕ) (words : Words) (b : ℕ) → is_some (words b) ≡ true → is_some (all_stored address list n words b) ≡ true
+pub all_stored_held : (address : ℕ → ℕ) (list : List ℕ) (n : ℕ) (words : Words) (b : ℕ) → has_word words b ≡ true → has_word (all_stored address list n words) b ≡ true
 unfolding all_stored
 all_stored_held address list zero words b h = h
 all_stored_held address list (suc n) words b h =
@@ -70,7 +70,7 @@ unfolding sector_from words_from
 loaded_none address words = refl
 
 -- one word more is loaded
-pub loaded_more : (address : ℕ → ℕ) (words : Words) (n a w : ℕ) (list : List ℕ) → n < 256 → a ≡ address n → words a ≡ Some w
+pub loaded_more : (address : ℕ → ℕ) (words : Words) (n a w : ℕ) (list : List ℕ) → n < 256 → a ≡ address n → w ≡ word_at words a
     → list ≡ sector_from address n words → set list n w ≡ sector_from address (n + 1) words
 unfolding sector_from words_from
 loaded_more address words n a w list lt at is was =
@@ -78,7 +78,7 @@ loaded_more address words n a w list lt at is was =
     let xs : List ℕ = map f (range_with_len 0 n) in
     let m : ℕ = 256 - (n + 1) in
     let len : n ≡ length xs = sym (length-map-range_with_len f 0 n) in
-    let word : w ≡ f n = ap (λ (o : Option ℕ). unwrap_or o 0) (sym is) ∙ ap (λ (b : ℕ). word_at words b) at in
+    let word : w ≡ f n = is ∙ ap (λ (b : ℕ). word_at words b) at in
     let split : 256 - n ≡ suc m = omega arith in
     let more : map f (range_with_len 0 (n + 1)) ≡ xs ++ f n ∷ [] = map-range_with_len_more f 0 n n (omega arith) in
     ap (λ (l : List ℕ). set l n w) (was ∙ ap (λ (k : ℕ). xs ++ replicate k 0) split)

@@ -1,10 +1,10 @@
-ghost use Rattle.std.specs.Prelude.{◌≡◌, ℕ, ◌+◌, ◌<◌, ◌≤◌, Option, Some, is_some, IsSome};
-ghost use Rattle.p11_rk11.specs.Memory.{Words, stored};
+ghost use Rattle.std.specs.Prelude.{◌≡◌, ℕ, ◌+◌, ◌<◌, ◌≤◌, true};
+ghost use Rattle.p11_rk11.specs.Memory.{Words, has_word, word_at, stored};
 
-/// Words of memory, as a device reaches them: a map from even addresses to words, and room for a
+/// Words of memory, as a device reaches them: a list, of which word `k` is at address `2 * k`, and room for a
 /// number of stores.
 pub trait WordMemory {
-    /// The word at an address, where there is memory.
+    /// The words from address 0 on.
     ghost words: { Self → Words };
 
     /// How many words may be stored yet.
@@ -12,16 +12,16 @@ pub trait WordMemory {
 
     /// Whether there is memory at an address.
     fn holds(&self, pa: u32) -> bool
-        ensures { result ≡ is_some (words self.now pa) };
+        ensures { result ≡ has_word (words self.now) pa };
 
     /// The word at an address that is memory.
     fn load(&self, pa: u32) -> u16
-        requires { IsSome (words self.now pa) }
-        ensures { words self.now pa ≡ Some result };
+        requires { has_word (words self.now) pa ≡ true }
+        ensures { result ≡ word_at (words self.now) pa };
 
     /// Stores a word at an address that is memory. It uses at most one of the room.
     fn store(&mut self, pa: u32, w: u16)
-        requires held { IsSome (words self.old pa) }
+        requires held { has_word (words self.old) pa ≡ true }
         requires free { 0 < room self.old }
         ensures words { words self.new ≡ stored (words self.old) pa w }
         ensures room { room self.old ≤ room self.new + 1 };

@@ -14,25 +14,24 @@ struct Ram {
 }
 
 impl WordMemory for Ram {
-    ghost use Rattle.p11_rk11.specs.Memory.{words_in};
-
-    ghost words = { λ ram. words_in ram.words.items };
+    ghost words = { λ ram. ram.words.items };
 
     ghost room = { λ ram. 256 };
 
-    #[tactic(auto, unfolding(crate::specs::Memory::words_in))]
+    #[tactic(auto, unfolding(crate::specs::Memory::has_word))]
     fn holds(&self, pa: u32) -> bool {
-        if pa % 2 == 0 {
-            (pa as usize) / 2 < self.words.len()
-        } else {
-            false
+        if pa % 2 != 0 {
+            return false;
         }
+        (pa as usize) / 2 < self.words.len()
     }
 
+    #[tactic(auto, unfolding(crate::specs::Memory::has_word, crate::specs::Memory::word_at))]
     fn load(&self, pa: u32) -> u16 {
         self.words[pa as usize / 2]
     }
 
+    #[tactic(auto, unfolding(crate::specs::Memory::has_word, crate::specs::Memory::stored))]
     fn store(&mut self, pa: u32, w: u16) {
         self.words[pa as usize / 2] = w;
     }
