@@ -1,4 +1,6 @@
+pub mod Memory
 pub mod State
+pub mod Prepared
 pub mod Step
 pub mod Registers
 pub mod Bus

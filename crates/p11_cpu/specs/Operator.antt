@@ -1,14 +1,14 @@
 -- What the operator does to a machine between turns, and a new machine.
-use Rattle.std.specs.Prelude.{ℕ, replicate, true, false, Bool, Option, Some, None, ◌==◌, if◌then◌else◌}
+use Rattle.std.specs.Prelude.{ℕ, replicate, false, Bool, Option, Some, None, ◌==◌, if◌then◌else◌}
 use Rattle.p11_decode.specs.declared.operand.Register.TheVariants as registers
 use Rattle.p11_psw.specs.declared.mode.Mode.TheVariants.{Kernel}
-use Rattle.p11_psw.specs.Status.{new_status, status_of, status_word}
+use Rattle.p11_psw.specs.Status.{new_status, status_of}
 use Rattle.p11_cpu.specs.declared.registers.ConsoleRegister.{ConsoleRegister}
 use Rattle.p11_cpu.specs.declared.registers.ConsoleRegister.TheVariants.{R0, R1, R2, R3, R4, R5, KernelSp, Pc, UserSp, Status}
-use Rattle.p11_cpu.specs.State.{Processor, HardwareState, State}
+use Rattle.p11_cpu.specs.State.{Processor, HardwareState, State, hardware_of, with_hardware}
 use Rattle.p11_cpu.specs.Registers.{with_register}
-use Rattle.p11_cpu.specs.Bus.{new_bus, bus_answers, see, changed_at}
-use Rattle.p11_cpu.specs.References.{status_address, status_written}
+use Rattle.p11_cpu.specs.Bus.{new_bus}
+use Rattle.p11_cpu.specs.References.{see, change, after_read, answers}
 use Rattle.p11_cpu.specs.ProcessorControl.{initialized}
 
 -- a machine of so many thousand words of memory: zeros everywhere
@@ -16,43 +16,35 @@ unfoldable pub new_machine : ℕ → State
 new_machine kwords =
     record {
       turns = 0;
-      hardware =
+      processor =
           record {
-            processor =
-                record {
-                  registers = record { general = replicate 6 0; kernel_sp = 0; user_sp = 0; pc = 0 };
-                  status = new_status;
-                  waiting = false;
-                  halted = false;
-                  limit_passed = false;
-                };
-            management = record {};
-            bus = new_bus kwords;
+            registers = record { general = replicate 6 0; kernel_sp = 0; user_sp = 0; pc = 0 };
+            status = new_status;
+            waiting = false;
+            halted = false;
           };
+      management = record {};
+      bus = new_bus kwords;
     }
 
--- whether an even bus address has a word: what is on the bus, and the status word in front of it
-unfoldable pub answers_at : ℕ → HardwareState → Bool
-answers_at address h = if address == status_address then true else bus_answers address h.bus
+-- THE OPERATOR'S REFERENCES are those of a program at a bus address, in the turn of the count so far, without a trap.
 
--- the word that shows there
-unfoldable pub shown_at : ℕ → ℕ → HardwareState → ℕ
-shown_at turn address h =
-    if address == status_address then status_word h.processor.status else see turn address h.bus
-
--- the hardware once a word is written there
-unfoldable pub deposited_at : ℕ → ℕ → ℕ → HardwareState → HardwareState
-deposited_at turn address word h =
-    if address == status_address then status_written word h else record h { bus = changed_at turn address word h.bus }
-
+-- whether there is a word at a bus address that can be examined and deposited
 unfoldable pub answers_of : ℕ → State → Bool
-answers_of address s = answers_at address s.hardware
+answers_of pa s = answers s.turns pa (hardware_of s)
 
-unfoldable pub examine_of : ℕ → State → ℕ
-examine_of address s = shown_at s.turns address s.hardware
+-- the number of a word that shows
+abbrev pub shown_word : Option ℕ → ℕ
+shown_word (Some word) = word
+shown_word None = 0
 
+-- a real read at an address that answers: the machine after it, and the word
+unfoldable pub examine_of : ℕ → State → State × ℕ
+examine_of pa s = (with_hardware (after_read pa (hardware_of s)) s, shown_word (see s.turns pa (hardware_of s)))
+
+-- a write at an address that answers
 unfoldable pub deposit_of : ℕ → ℕ → State → State
-deposit_of address word s = record s { hardware = deposited_at s.turns address word s.hardware }
+deposit_of pa word s = with_hardware (change s.turns pa word (hardware_of s)) s
 
 -- the registers that the operator can set, by their numbers
 unfoldable pub console_register : ℕ → Option ConsoleRegister
@@ -86,7 +78,7 @@ unfoldable pub set_console : ConsoleRegister → ℕ → HardwareState → Hardw
 set_console r value h = record h { processor = with_console_register r value h.processor }
 
 unfoldable pub set_reg_of : ConsoleRegister → ℕ → State → State
-set_reg_of r value s = record s { hardware = set_console r value s.hardware }
+set_reg_of r value s = with_hardware (set_console r value (hardware_of s)) s
 
 -- START: the bus is initialised, the status is 0, PC the address, and no waiting or halted mark is left; the other
 -- registers and the count of turns stay
@@ -104,4 +96,4 @@ started pc h =
     }
 
 unfoldable pub start_of : ℕ → State → State
-start_of pc s = record s { hardware = started pc s.hardware }
+start_of pc s = with_hardware (started pc (hardware_of s)) s

@@ -20,7 +20,9 @@ mod service;
 mod single_operand;
 #[cfg(test)]
 mod tests;
+mod trap;
 mod turn;
+mod turn_number;
 
 pub use machine::Machine;
 pub use registers::{ConsoleRegister, Registers};

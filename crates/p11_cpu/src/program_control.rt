@@ -3,9 +3,10 @@ ghost use Rattle.p11_cpu.specs.Instructions.{execute_of};
 ghost use Rattle.p11_cpu.specs.ProgramControl.{is_taken, branch_address, branched, counted_back};
 
 use crate::hardware::Hardware;
+use crate::trap::Trap;
+use crate::turn_number::TurnNumber;
 use p11_alu::Codes;
 use p11_decode::{Condition, Count, Op, Operand, Register};
-use p11_psw::Vector;
 use std::alloc::Allocator;
 
 /// Whether a branch is taken, by the condition codes.
@@ -70,7 +71,12 @@ impl<A: Allocator> Hardware<A> {
 
     /// BR and the conditional branches.
     #[tactic(auto, unfolding(crate::specs::Instructions::moves_of))]
-    pub fn branch(&mut self, _turn: u64, condition: Condition, offset: u8) -> Result<(), Vector>
+    pub fn branch(
+        &mut self,
+        _turn: TurnNumber,
+        condition: Condition,
+        offset: u8,
+    ) -> Result<(), Trap>
         ensures { execute_of (Op.Branch condition offset) _turn self.old ≡ (self.new, result) }
     {
         self.take_branch(condition, offset);
@@ -79,7 +85,7 @@ impl<A: Allocator> Hardware<A> {
 
     /// JMP.
     #[tactic(auto, unfolding(crate::specs::Instructions::moves_of))]
-    pub fn jmp(&mut self, turn: u64, operand: Operand) -> Result<(), Vector>
+    pub fn jmp(&mut self, turn: TurnNumber, operand: Operand) -> Result<(), Trap>
         ensures { execute_of (Op.Jmp operand) turn self.old ≡ (self.new, result) }
     {
         let target = self.find_target(turn, operand)?;
@@ -89,7 +95,12 @@ impl<A: Allocator> Hardware<A> {
 
     /// JSR.
     #[tactic(auto, unfolding(crate::specs::Instructions::moves_of))]
-    pub fn jsr(&mut self, turn: u64, register: Register, operand: Operand) -> Result<(), Vector>
+    pub fn jsr(
+        &mut self,
+        turn: TurnNumber,
+        register: Register,
+        operand: Operand,
+    ) -> Result<(), Trap>
         ensures { execute_of (Op.Jsr register operand) turn self.old ≡ (self.new, result) }
     {
         let target = self.find_target(turn, operand)?;
@@ -102,7 +113,7 @@ impl<A: Allocator> Hardware<A> {
 
     /// RTS.
     #[tactic(auto, unfolding(crate::specs::Instructions::moves_of))]
-    pub fn rts(&mut self, turn: u64, register: Register) -> Result<(), Vector>
+    pub fn rts(&mut self, turn: TurnNumber, register: Register) -> Result<(), Trap>
         ensures { execute_of (Op.Rts register) turn self.old ≡ (self.new, result) }
     {
         let link = self.register(register);
@@ -114,7 +125,7 @@ impl<A: Allocator> Hardware<A> {
 
     /// MARK.
     #[tactic(auto, unfolding(crate::specs::Instructions::moves_of))]
-    pub fn mark(&mut self, turn: u64, count: Count) -> Result<(), Vector>
+    pub fn mark(&mut self, turn: TurnNumber, count: Count) -> Result<(), Trap>
         ensures { execute_of (Op.Mark count) turn self.old ≡ (self.new, result) }
     {
         let pc = self.register(Register::Pc);
@@ -128,7 +139,7 @@ impl<A: Allocator> Hardware<A> {
 
     /// SOB.
     #[tactic(auto, unfolding(crate::specs::Instructions::moves_of))]
-    pub fn sob(&mut self, _turn: u64, register: Register, count: Count) -> Result<(), Vector>
+    pub fn sob(&mut self, _turn: TurnNumber, register: Register, count: Count) -> Result<(), Trap>
         ensures { execute_of (Op.Sob register count) _turn self.old ≡ (self.new, result) }
     {
         let left = self.register(register).wrapping_sub(1);

@@ -4,9 +4,10 @@ ghost use Rattle.p11_cpu.specs.Moves.{odd_of, pair_of_registers, set_pair_of};
 ghost use Rattle.p11_cpu.specs.RegisterOperand.{quotient_stored};
 
 use crate::hardware::Hardware;
+use crate::trap::Trap;
+use crate::turn_number::TurnNumber;
 use p11_alu::{Pair, Quotient, ash, ashc, div, mul};
 use p11_decode::{Op, Operand, Register, Size};
-use p11_psw::Vector;
 use std::alloc::Allocator;
 
 /// The register of a pair's low half: the next one of an even register, an odd register itself.
@@ -58,7 +59,12 @@ impl<A: Allocator> Hardware<A> {
 
     /// MUL.
     #[tactic(auto, unfolding(crate::specs::Instructions::moves_of))]
-    pub fn mul(&mut self, turn: u64, register: Register, operand: Operand) -> Result<(), Vector>
+    pub fn mul(
+        &mut self,
+        turn: TurnNumber,
+        register: Register,
+        operand: Operand,
+    ) -> Result<(), Trap>
         ensures { execute_of (Op.Mul register operand) turn self.old ≡ (self.new, result) }
     {
         let place = self.find_place(turn, Size::Word, operand)?;
@@ -71,7 +77,12 @@ impl<A: Allocator> Hardware<A> {
 
     /// DIV.
     #[tactic(auto, unfolding(crate::specs::Instructions::moves_of))]
-    pub fn div(&mut self, turn: u64, register: Register, operand: Operand) -> Result<(), Vector>
+    pub fn div(
+        &mut self,
+        turn: TurnNumber,
+        register: Register,
+        operand: Operand,
+    ) -> Result<(), Trap>
         ensures { execute_of (Op.Div register operand) turn self.old ≡ (self.new, result) }
     {
         let place = self.find_place(turn, Size::Word, operand)?;
@@ -84,7 +95,12 @@ impl<A: Allocator> Hardware<A> {
 
     /// ASH.
     #[tactic(auto, unfolding(crate::specs::Instructions::moves_of))]
-    pub fn ash(&mut self, turn: u64, register: Register, operand: Operand) -> Result<(), Vector>
+    pub fn ash(
+        &mut self,
+        turn: TurnNumber,
+        register: Register,
+        operand: Operand,
+    ) -> Result<(), Trap>
         ensures { execute_of (Op.Ash register operand) turn self.old ≡ (self.new, result) }
     {
         let place = self.find_place(turn, Size::Word, operand)?;
@@ -97,7 +113,12 @@ impl<A: Allocator> Hardware<A> {
 
     /// ASHC.
     #[tactic(auto, unfolding(crate::specs::Instructions::moves_of))]
-    pub fn ashc(&mut self, turn: u64, register: Register, operand: Operand) -> Result<(), Vector>
+    pub fn ashc(
+        &mut self,
+        turn: TurnNumber,
+        register: Register,
+        operand: Operand,
+    ) -> Result<(), Trap>
         ensures { execute_of (Op.Ashc register operand) turn self.old ≡ (self.new, result) }
     {
         let place = self.find_place(turn, Size::Word, operand)?;

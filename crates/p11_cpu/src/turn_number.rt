@@ -1,0 +1,48 @@
+ghost use Rattle.std.specs.Prelude.{◌≡◌, ◌≤◌, ◌<◌, ◌+◌, ◌^◌};
+
+use std::marker::Model;
+
+/// The number of a turn, 2^62 at most. A contract sees it as that number.
+#[derive(Clone, Copy)]
+pub(crate) struct TurnNumber {
+    number: u64,
+}
+
+impl Model for TurnNumber {
+    ghost use Rattle.std.specs.Prelude.{ℕ, ◌≤◌, ◌^◌};
+
+    ghost Value = { ℕ };
+
+    ghost view = { λ t. t.number };
+
+    ghost invariant = { λ t. t.number ≤ 2 ^ 62 };
+
+    ghost inverse = { λ n. record { number = n } };
+}
+
+impl TurnNumber {
+    /// The count of the turns of a new machine.
+    pub fn zero() -> Self
+        ensures { result ≡ 0 }
+    {
+        TurnNumber { number: 0 }
+    }
+
+    /// The next number.
+    pub fn next(self) -> Self
+        requires { self < 2 ^ 62 }
+        ensures { result ≡ self + 1 }
+    {
+        TurnNumber {
+            number: self.number + 1,
+        }
+    }
+
+    /// The number itself.
+    pub fn number(self) -> u64
+        ensures value { result ≡ self }
+        ensures bound { result ≤ 2 ^ 62 }
+    {
+        self.number
+    }
+}
