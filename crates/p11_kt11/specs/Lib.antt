@@ -4,5 +4,4 @@ pub mod Register
 pub mod Management
 pub mod Translation
 pub mod Registers
-pub mod Instruction
 pub mod Laws

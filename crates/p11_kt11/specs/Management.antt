@@ -1,12 +1,12 @@
 -- The state of memory management, as programs and the operator see it.
-use Rattle.std.specs.Prelude.{ℕ, List, false, replicate, slice_index_or, slice_set}
+use Rattle.std.specs.Prelude.{ℕ, List, false, replicate, slice_index_or, slice_set, if◌then◌else◌}
 use Rattle.p11_psw.specs.declared.mode.Mode.TheVariants.{Kernel}
 use Rattle.p11_kt11.specs.declared.page.Page.{Page}
 use Rattle.p11_kt11.specs.declared.status.Status.{Status}
 use Rattle.p11_kt11.specs.declared.register.Space.{Space}
 use Rattle.p11_kt11.specs.declared.register.Space.TheVariants.{Kernel as KernelSpace, User as UserSpace}
 use Rattle.p11_kt11.specs.Page.{clear_page}
-use Rattle.p11_kt11.specs.Reference.{no_cause}
+use Rattle.p11_kt11.specs.Reference.{any_cause, no_cause}
 
 pub record Management : Type 0 where
   -- the eight pages of kernel mode and of user mode
@@ -43,5 +43,9 @@ with_page KernelSpace number page s = record s { kernel = slice_set s.kernel num
 with_page UserSpace number page s = record s { user = slice_set s.user number page }
 
 -- INIT clears SR0; PAR, PDR and SR2 stay
-unfoldable pub init_of : Management → Management
-init_of s = record s { status = clear_status }
+unfoldable pub management_after_init : Management → Management
+management_after_init s = record s { status = clear_status }
+
+-- An instruction begins: SR2 takes its PC, with mapping off too, unless an error stands in SR0.
+unfoldable pub management_after_begin_instruction : ℕ → Management → Management
+management_after_begin_instruction pc s = if any_cause s.status.causes then s else record s { instruction = pc }

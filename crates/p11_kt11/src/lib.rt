@@ -19,9 +19,9 @@ mod tests;
 pub use kt11::Kt11;
 pub use laws::{
     only_the_top_goes_to_the_io_page, same_pages_same_place, same_reference_same_answer,
-    translation_keeps_pages,
+    translation_keeps_pages, translation_keeps_user_off_io_page, user_translation_keeps_all_else,
 };
 pub use page::{Access, Descriptor, Growth, Page};
 pub use reference::{Abort, Causes, Kind};
-pub use register::{Register, Space, register_at};
+pub use register::{Register, Space};
 pub use status::Status;

@@ -1,4 +1,4 @@
-use crate::{Abort, Causes, Kind, Kt11, register_at};
+use crate::{Abort, Causes, Kind, Kt11, Register};
 use p11_psw::Mode;
 use std::process;
 
@@ -72,7 +72,7 @@ fn thirty_four_addresses_answer(rt: HostRuntime) {
     let mut unit = Kt11::new();
     let mut answers = 0_u32;
     for address in 0..0o1000000 {
-        if register_at(address).is_some() {
+        if Register::at(address).is_some() {
             assert!(rt;
                 unit.read(address).is_some() && unit.write(address, 0),
                 "{address:o}"
@@ -90,12 +90,12 @@ fn thirty_four_addresses_answer(rt: HostRuntime) {
     for first in [KERNEL_PDR, KERNEL_PAR, USER_PDR, USER_PAR] {
         for number in 0..8 {
             assert!(rt;
-                register_at(first + 2 * number).is_some(),
+                Register::at(first + 2 * number).is_some(),
                 "{first:o} {number}"
             );
         }
     }
-    assert!(rt; register_at(SR0).is_some() && register_at(SR2).is_some());
+    assert!(rt; Register::at(SR0).is_some() && Register::at(SR2).is_some());
 }
 
 #[test]
