@@ -1,0 +1,4 @@
+pub mod Bytes
+pub mod State
+pub mod Bus
+pub mod Laws
