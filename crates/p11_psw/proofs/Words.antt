@@ -1,12 +1,12 @@
 -- A status and its word say the same.
-use Rattle.std.proofs.Common.{◌≡◌, ℕ, ◌+◌, ◌*◌, ◌/◌, ◌%◌, ◌<◌, ◌^◌, Bool, true, false, ◌==◌, refl, arith}
+use Rattle.std.proofs.Common.{◌≡◌, ℕ, ◌+◌, ◌*◌, ◌/◌, ◌%◌, ◌<◌, ◌^◌, Bool, true, false, ◌==◌, refl, ap, ◌∙◌, arith}
 use Rattle.std.proofs.lemmas.Bool.Decides.{nat_tests}
 use Rattle.p11_psw.specs.declared.mode.Mode.{Mode}
 use Rattle.p11_psw.specs.declared.mode.Mode.TheVariants.{Kernel, Mode01, Mode10, User}
 use Rattle.p11_psw.specs.declared.priority.Priority.{Priority}
 use Rattle.p11_psw.specs.declared.priority.Priority.TheVariants.{Level0, Level1, Level2, Level3, Level4, Level5, Level6, Level7}
 use Rattle.p11_psw.specs.declared.psw.Psw.{Psw}
-use Rattle.p11_psw.specs.Fields.{mode_number, mode_at, priority_number, priority_at, flag_number}
+use Rattle.p11_psw.specs.Fields.{mode_number, mode_at, priority_number, priority_at, flag}
 use Rattle.p11_psw.specs.Status.{status_of, status_word, without_unused}
 
 mode_below : (m : Mode) → mode_number m < 4
@@ -25,9 +25,14 @@ priority_below Level5 = omega arith
 priority_below Level6 = omega arith
 priority_below Level7 = omega arith
 
-flag_below : (b : Bool) → flag_number b < 2
+flag_below : (b : Bool) → flag b 1 < 2
 flag_below false = omega arith
 flag_below true = omega arith
+
+-- a flag of any weight
+flag_times : (b : Bool) (weight : ℕ) → flag b weight ≡ flag b 1 * weight
+flag_times false weight = omega arith
+flag_times true weight = omega arith
 
 mode_back : (m : Mode) → mode_at (mode_number m) ≡ m
 mode_back Kernel = refl
@@ -45,7 +50,7 @@ priority_back Level5 = refl
 priority_back Level6 = refl
 priority_back Level7 = refl
 
-flag_back : (b : Bool) → (flag_number b == 1) ≡ b
+flag_back : (b : Bool) → (flag b 1 == 1) ≡ b
 flag_back false = refl
 flag_back true = refl
 
@@ -73,7 +78,7 @@ record Unpacked (w a b p t n z v c : ℕ) : Type 0 where
   pub n_is : w / 0o10 % 2 ≡ n
   pub z_is : w / 0o4 % 2 ≡ z
   pub v_is : w / 0o2 % 2 ≡ v
-  pub c_is : w % 2 ≡ c
+  pub c_is : w / 0o1 % 2 ≡ c
   pub gap : w / 0o10000 * 0o10000 + w % 0o400 ≡ w
   pub fits : w < 2 ^ 16
 
@@ -92,10 +97,11 @@ unpacked a b p t n z v c h =
       fits = omega (arith, h.a_in, h.b_in, h.p_in, h.t_in, h.n_in, h.z_in, h.v_in, h.c_in);
     }
 
-of_status : (p : Psw) → Unpacked (status_word p) (mode_number p.current) (mode_number p.previous) (priority_number p.priority) (flag_number p.trace) (flag_number p.n) (flag_number p.z) (flag_number p.v) (flag_number p.c)
+of_status : (p : Psw) → Unpacked (status_word p) (mode_number p.current) (mode_number p.previous) (priority_number p.priority) ((flag p.trace 1)) ((flag p.n 1)) ((flag p.z 1)) ((flag p.v 1)) ((flag p.c 1))
 unfolding status_word
 of_status p =
-    unpacked _ _ _ _ _ _ _ _ record {
+    rw (flag_times p.trace 0o20, flag_times p.n 0o10, flag_times p.z 0o4, flag_times p.v 0o2)
+    (unpacked _ _ _ _ _ _ _ _ record {
       a_in = mode_below p.current;
       b_in = mode_below p.previous;
       p_in = priority_below p.priority;
@@ -104,7 +110,7 @@ of_status p =
       z_in = flag_below p.z;
       v_in = flag_below p.v;
       c_in = flag_below p.c;
-    }
+    })
 
 pub status_of-status_word : (p : Psw) → status_of (status_word p) ≡ p
 unfolding status_of
@@ -126,11 +132,13 @@ mode_forth n h = grind (arith, nat_tests)
 priority_forth : (n : ℕ) → n < 8 → priority_number (priority_at n) ≡ n
 priority_forth n h = grind (arith, nat_tests)
 
-flag_forth : (n : ℕ) → n < 2 → flag_number (n == 1) ≡ n
-flag_forth n h = grind (arith, nat_tests)
+flag_forth : (n weight : ℕ) → n < 2 → flag (n == 1) weight ≡ n * weight
+flag_forth n weight h =
+    let one : flag (n == 1) 1 ≡ n = grind (arith, nat_tests) in
+    flag_times (n == 1) weight ∙ ap (λ k. k * weight) one
 
 pub status_word-status_of : (w : ℕ) → w < 2 ^ 16 → status_word (status_of w) ≡ without_unused w
 unfolding status_word status_of without_unused
 status_word-status_of w h =
-    rw (mode_forth (w / 0o40000 % 4) (omega arith), mode_forth (w / 0o10000 % 4) (omega arith), priority_forth (w / 0o40 % 8) (omega arith), flag_forth (w / 0o20 % 2) (omega arith), flag_forth (w / 0o10 % 2) (omega arith), flag_forth (w / 0o4 % 2) (omega arith), flag_forth (w / 0o2 % 2) (omega arith), flag_forth (w % 2) (omega arith))
+    rw (mode_forth (w / 0o40000 % 4) (omega arith), mode_forth (w / 0o10000 % 4) (omega arith), priority_forth (w / 0o40 % 8) (omega arith), flag_forth (w / 0o20 % 2) 0o20 (omega arith), flag_forth (w / 0o10 % 2) 0o10 (omega arith), flag_forth (w / 0o4 % 2) 0o4 (omega arith), flag_forth (w / 0o2 % 2) 0o2 (omega arith), flag_forth (w / 0o1 % 2) 0o1 (omega arith))
     (omega arith)

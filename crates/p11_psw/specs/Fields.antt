@@ -1,5 +1,5 @@
 -- The fields of the processor status word as numbers.
-use Rattle.std.specs.Prelude.{ℕ, Bool, true, false, ◌==◌, if◌then◌else◌}
+use Rattle.std.specs.Prelude.{ℕ, ◌/◌, ◌%◌, Bool, ◌==◌, if◌then◌else◌}
 use Rattle.p11_psw.specs.declared.mode.Mode.{Mode}
 use Rattle.p11_psw.specs.declared.mode.Mode.TheVariants.{Kernel, Mode01, Mode10, User}
 use Rattle.p11_psw.specs.declared.priority.Priority.{Priority}
@@ -19,15 +19,10 @@ mode_at n = if n == 0 then Kernel else (if n == 1 then Mode01 else (if n == 2 th
 -- the mode whose two bits are each set where the bit of one mode or of the other is
 abbrev pub joined_mode : Mode → Mode → Mode
 joined_mode Kernel m = m
-joined_mode User m = User
-joined_mode Mode01 Kernel = Mode01
+joined_mode m Kernel = m
 joined_mode Mode01 Mode01 = Mode01
-joined_mode Mode01 Mode10 = User
-joined_mode Mode01 User = User
-joined_mode Mode10 Kernel = Mode10
-joined_mode Mode10 Mode01 = User
 joined_mode Mode10 Mode10 = Mode10
-joined_mode Mode10 User = User
+joined_mode _ _ = User
 
 -- the processor's priority is a level from 0 to 7
 abbrev pub priority_number : Priority → ℕ
@@ -52,7 +47,10 @@ priority_at n =
     else (if n == 6 then Level6
     else Level7))))))
 
--- a single bit
-abbrev pub flag_number : Bool → ℕ
-flag_number false = 0
-flag_number true = 1
+-- a flag as a number: its weight or 0
+abbrev pub flag : Bool → ℕ → ℕ
+flag is_set weight = if is_set then weight else 0
+
+-- the bit of a word that has this weight
+abbrev pub bit_of : ℕ → ℕ → Bool
+bit_of word weight = word / weight % 2 == 1

@@ -1,7 +1,7 @@
 -- Where a new status comes from: a vector, RTI or RTT, and a write to the status word's bus address.
 use Rattle.std.specs.Prelude.{ℕ}
 use Rattle.p11_psw.specs.declared.mode.Mode.{Mode}
-use Rattle.p11_psw.specs.declared.mode.Mode.TheVariants.{Kernel, Mode01, Mode10, User}
+use Rattle.p11_psw.specs.declared.mode.Mode.TheVariants.{Kernel}
 use Rattle.p11_psw.specs.declared.psw.Psw.{Psw}
 use Rattle.p11_psw.specs.Fields.{joined_mode}
 use Rattle.p11_psw.specs.Status.{status_of}
@@ -14,9 +14,7 @@ status_from_vector before word = record (status_of word) { previous = before.cur
 -- in kernel mode the first, else the second
 abbrev pub by_privilege : Mode → Psw → Psw → Psw
 by_privilege Kernel p q = p
-by_privilege Mode01 p q = q
-by_privilege Mode10 p q = q
-by_privilege User p q = q
+by_privilege _ p q = q
 
 -- RTI and RTT in kernel mode take the popped word as it is. In another mode they can't give up a mode bit that is set,
 -- and they leave the priority.

@@ -1,10 +1,10 @@
 -- The processor status word: bits 15:14 current mode, 13:12 previous mode, 7:5 priority, 4 T, 3 N, 2 Z, 1 V, 0 C.
 -- Bits 11:8 are unused and read as 0.
-use Rattle.std.specs.Prelude.{ℕ, ◌+◌, ◌*◌, ◌/◌, ◌%◌, false, ◌==◌}
+use Rattle.std.specs.Prelude.{ℕ, ◌+◌, ◌*◌, ◌/◌, ◌%◌, false}
 use Rattle.p11_psw.specs.declared.mode.Mode.TheVariants.{Kernel}
 use Rattle.p11_psw.specs.declared.priority.Priority.TheVariants.{Level0}
 use Rattle.p11_psw.specs.declared.psw.Psw.{Psw}
-use Rattle.p11_psw.specs.Fields.{mode_number, mode_at, priority_number, priority_at, flag_number}
+use Rattle.p11_psw.specs.Fields.{mode_number, mode_at, priority_number, priority_at, flag, bit_of}
 
 -- the word of a status: each field at the weight of its lowest bit
 unfoldable pub status_word : Psw → ℕ
@@ -12,11 +12,11 @@ status_word p =
     mode_number p.current * 0o40000
     + mode_number p.previous * 0o10000
     + priority_number p.priority * 0o40
-    + flag_number p.trace * 0o20
-    + flag_number p.n * 0o10
-    + flag_number p.z * 0o4
-    + flag_number p.v * 0o2
-    + flag_number p.c
+    + flag p.trace 0o20
+    + flag p.n 0o10
+    + flag p.z 0o4
+    + flag p.v 0o2
+    + flag p.c 0o1
 
 -- the status that a word says: each field is the number at its bits
 unfoldable pub status_of : ℕ → Psw
@@ -25,11 +25,11 @@ status_of word =
       current = mode_at (word / 0o40000 % 4);
       previous = mode_at (word / 0o10000 % 4);
       priority = priority_at (word / 0o40 % 8);
-      trace = word / 0o20 % 2 == 1;
-      n = word / 0o10 % 2 == 1;
-      z = word / 0o4 % 2 == 1;
-      v = word / 0o2 % 2 == 1;
-      c = word % 2 == 1;
+      trace = bit_of word 0o20;
+      n = bit_of word 0o10;
+      z = bit_of word 0o4;
+      v = bit_of word 0o2;
+      c = bit_of word 0o1;
     }
 
 -- a word with its bits 11:8 made 0

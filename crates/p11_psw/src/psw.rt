@@ -1,5 +1,5 @@
-ghost use Rattle.std.specs.Prelude.{◌≡◌, ◌≤◌, ◌<◌, ◌*◌, ◌/◌, ◌%◌, ◌^◌, ◌==◌};
-ghost use Rattle.p11_psw.specs.Fields.{flag_number};
+ghost use Rattle.std.specs.Prelude.{◌≡◌, ◌≤◌, ◌<◌, ◌^◌};
+ghost use Rattle.p11_psw.specs.Fields.{bit_of, flag};
 ghost use Rattle.p11_psw.specs.Sources.{status_from_return, status_from_vector, status_from_write};
 ghost use Rattle.p11_psw.specs.Status.{new_status, status_of, status_word};
 
@@ -20,17 +20,17 @@ pub struct Psw {
 }
 
 /// The flag as a bit of this weight.
-fn flag_bit(flag: bool, weight: u16) -> u16
-    ensures value { result ≡ flag_number flag * weight }
+fn flag(is_set: bool, weight: u16) -> u16
+    ensures value { result ≡ flag is_set weight }
     ensures bound { result ≤ weight }
 {
-    if flag { weight } else { 0 }
+    if is_set { weight } else { 0 }
 }
 
-/// Whether the word's bit at this place is set.
-fn flag_at(word: u16, place: u32) -> bool
+/// Whether the word's bit at this place, whose weight is a power of 2, is set.
+fn bit(word: u16, place: u32) -> bool
     requires { place < 16 }
-    ensures { result ≡ (word / 2 ^ place % 2 == 1) }
+    ensures { result ≡ bit_of word (2 ^ place) }
 {
     word >> place & 1 == 1
 }
@@ -59,11 +59,8 @@ impl Psw {
         ensures { result ≡ status_word self }
     {
         let modes = self.current.number() * 0o40000 + self.previous.number() * 0o10000;
-        let codes = flag_bit(self.n, 8)
-            + flag_bit(self.z, 4)
-            + flag_bit(self.v, 2)
-            + flag_bit(self.c, 1);
-        modes + self.priority.number() * 0o40 + flag_bit(self.trace, 0o20) + codes
+        let codes = flag(self.n, 8) + flag(self.z, 4) + flag(self.v, 2) + flag(self.c, 1);
+        modes + self.priority.number() * 0o40 + flag(self.trace, 0o20) + codes
     }
 
     /// The status that a word says: every field, and nothing of bits 11:8.
@@ -75,11 +72,11 @@ impl Psw {
             current: Mode::from_number(word >> 14),
             previous: Mode::from_number(word >> 12 & 3),
             priority: Priority::from_number(word >> 5 & 7),
-            trace: flag_at(word, 4),
-            n: flag_at(word, 3),
-            z: flag_at(word, 2),
-            v: flag_at(word, 1),
-            c: flag_at(word, 0),
+            trace: bit(word, 4),
+            n: bit(word, 3),
+            z: bit(word, 2),
+            v: bit(word, 1),
+            c: bit(word, 0),
         }
     }
 
