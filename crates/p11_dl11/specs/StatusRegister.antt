@@ -14,7 +14,7 @@ bit_of word weight = word / weight % 2 == 1
 abbrev pub section_word : (attention enable : Bool) → ℕ
 section_word attention enable = flag attention 0o200 + flag enable 0o100
 
--- The request after a write of the enable, from the request and the enable before it and done or ready. While interrupts
--- are disabled there is no request, and one is raised where enable rises while done or ready is 1.
+-- The request after a write of the enable, from the request and the enable before it and done or ready. While
+-- interrupts are disabled there is no request, and one is raised where enable rises while done or ready is 1.
 abbrev pub request_after_enable : (request was_enabled attention enable : Bool) → Bool
 request_after_enable request was_enabled attention enable = enable && (request || (attention && not was_enabled))

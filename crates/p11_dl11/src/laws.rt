@@ -46,7 +46,7 @@ pub fn transmitter_acts_when_due()
 /// After its acts in a turn the line is due in later turns alone, if the transmitter was not due before that turn.
 #[tactic(auto, unfolding(crate::specs::LineEvents::line_after_turn, crate::specs::ReceiverEvents::receiver_after_turn, crate::specs::ReceiverEvents::receiver_due, crate::specs::TransmitterEvents::transmitter_after_turn, crate::specs::TransmitterEvents::transmitter_due, crate::specs::TransmitterEvents::typed_in))]
 pub fn due_turns_are_later()
-    ensures receiver { (l : LineState) (turn : ℕ) → IsBefore turn (receiver_due turn (line_after_turn turn l).receiver) }
-    ensures transmitter { (l : LineState) (turn : ℕ) → IsNotAfter turn (transmitter_due l.transmitter)
+    ensures keys { (l : LineState) (turn : ℕ) → IsBefore turn (receiver_due turn (line_after_turn turn l).receiver) }
+    ensures characters { (l : LineState) (turn : ℕ) → IsNotAfter turn (transmitter_due l.transmitter)
         → IsBefore turn (transmitter_due (line_after_turn turn l).transmitter) }
 {}

@@ -1,5 +1,4 @@
--- A block of an absolute tape: its parts, its bytes, and what it asks for. This is the absolute binary format
--- of the PDP-11 paper tape software, which the Absolute Loader reads.
+-- A block of a tape in the absolute binary format of the PDP-11 paper tape software: its parts and its bytes.
 use Rattle.std.specs.Prelude.{◌≡◌, ℕ, ◌+◌, ◌/◌, ◌%◌, ◌^◌, ◌<◌, ◌≤◌, nat_eq, List, [], ◌∷◌, ◌++◌, length, sum, Option, Some, None, if◌then◌else◌}
 use Rattle.std.specs.List.{enumerate_from}
 
@@ -25,8 +24,7 @@ before_checksum address bytes = 1 ∷ 0 ∷ (word_bytes (6 + length bytes) ++ wo
 unfoldable pub block_bytes : Block → List ℕ
 block_bytes block = before_checksum block.address block.bytes ++ block.checksum ∷ []
 
--- A block is sound if its count and its address are words, no data byte would lie past address 177777, and
--- the sum of all its bytes, the checksum among them, is 0 modulo 2^8.
+-- A sound block: count and address are words, no data goes past address 177777, and all bytes sum to 0 modulo 2^8.
 pub record IsBlock (block : Block) : Type 0 where
   pub count_fits : count_of block < 2 ^ 16
   pub address_fits : block.address < 2 ^ 16

@@ -20,8 +20,7 @@ count_at bytes = word_at bytes 2
 unfoldable pub address_at : List ℕ → ℕ
 address_at bytes = word_at bytes 4
 
--- What is wrong with bytes that should begin with a block, the first of which has the offset `at` in the
--- tape: the first of these that holds, with the place where it is seen.
+-- What is wrong where a block should begin, at the offset `at` of the tape: the first of these, and its place.
 unfoldable pub wrong_of : ℕ → List ℕ → Option TapeFault
 wrong_of at bytes =
     -- the first byte isn't 001, or the second isn't 000: that byte
@@ -30,7 +29,8 @@ wrong_of at bytes =
     -- the count is there, and is below 6: the count
     if nat_lt 3 (length bytes) && nat_lt (count_at bytes) 6 then Some (fault Count (at + 2)) else (
     -- the count isn't there, or not all that it covers and the checksum: the end of the tape
-    if nat_lt (length bytes) 4 || nat_le (length bytes) (count_at bytes) then Some (fault Short (at + length bytes)) else (
+    if nat_lt (length bytes) 4 || nat_le (length bytes) (count_at bytes)
+    then Some (fault Short (at + length bytes)) else (
     -- the data would go past address 177777: the block
     if nat_lt (2 ^ 16) (address_at bytes + (count_at bytes - 6)) then Some (fault Wrap at) else (
     -- the bytes don't sum to 0 modulo 2^8: the checksum

@@ -6,7 +6,9 @@ use Rattle.p11_tape.specs.Block.{Block, block_bytes, IsDataBlock, IsLastBlock, p
 -- A tape begins with zeros, then any number of data blocks, each followed by zeros; the rest comes after those.
 abbrev pub IsFront : List ℕ → List Block → List ℕ → Type 0
 IsFront tape [] rest = (zeros : ℕ) × (tape ≡ replicate zeros 0 ++ rest)
-IsFront tape (block ∷ blocks) rest = (zeros : ℕ) × (after : List ℕ) × IsDataBlock block × (tape ≡ replicate zeros 0 ++ (block_bytes block ++ after)) × IsFront after blocks rest
+IsFront tape (block ∷ blocks) rest =
+    (zeros : ℕ) × (after : List ℕ) × IsDataBlock block × (tape ≡ replicate zeros 0 ++ (block_bytes block ++ after))
+    × IsFront after blocks rest
 
 -- The rest of a tape is its end, or a last block and any bytes after it.
 abbrev pub IsEnd : List ℕ → Option Block → Type 0
@@ -24,8 +26,7 @@ abbrev pub start_by : Option Block → Option ℕ
 start_by None = None
 start_by (Some block) = start_of block.address
 
--- The bytes are a tape, and mean these data bytes, each with its address, in tape order, and this start
--- address or none.
+-- The bytes are a tape, and mean these data bytes, each with its address, in tape order, and this start or none.
 pub record Means (tape : List ℕ) (placed : List (ℕ × ℕ)) (start : Option ℕ) : Type 0 where
   pub blocks : List Block
   pub last : Option Block

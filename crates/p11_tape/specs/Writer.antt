@@ -9,7 +9,8 @@ checksum_of bytes = (2 ^ 8 - sum bytes % 2 ^ 8) % 2 ^ 8
 
 -- The block that a writer makes of an address and data bytes.
 abbrev pub made_block : ℕ → List ℕ → Block
-made_block address bytes = record { address = address; bytes = bytes; checksum = checksum_of (before_checksum address bytes) }
+made_block address bytes =
+    record { address = address; bytes = bytes; checksum = checksum_of (before_checksum address bytes) }
 
 -- A piece of what is to be written: data bytes for an address, and how many zeros follow their block.
 pub record Piece : Type 0 where

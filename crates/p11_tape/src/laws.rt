@@ -9,7 +9,8 @@ use crate::fault::TapeFault;
 
 /// A sequence of bytes has at most one meaning.
 pub fn one_meaning()
-    ensures { (tape : List ℕ) (p q : List (ℕ × ℕ)) (s t : Option ℕ) → Means tape p s → Means tape q t → (p ≡ q) × (s ≡ t) }
+    ensures { (tape : List ℕ) (p q : List (ℕ × ℕ)) (s t : Option ℕ) →
+        Means tape p s → Means tape q t → (p ≡ q) × (s ≡ t) }
 {}
 
 /// It has at most one fault.
@@ -25,8 +26,8 @@ pub fn fault_or_meaning()
 
 /// What follows the last block doesn't matter.
 pub fn after_the_last_block()
-    ensures { (front : List ℕ) (blocks : List Block) (last : Block) (after other : List ℕ) (p : List (ℕ × ℕ)) (s : Option ℕ) →
-        IsFront front blocks [] → IsLastBlock last →
+    ensures { (front : List ℕ) (blocks : List Block) (last : Block) (after other : List ℕ)
+        (p : List (ℕ × ℕ)) (s : Option ℕ) → IsFront front blocks [] → IsLastBlock last →
         Means (front ++ (block_bytes last ++ after)) p s → Means (front ++ (block_bytes last ++ other)) p s }
 {}
 
@@ -38,6 +39,8 @@ pub fn written_tape()
 
 /// With a last block it gives the start address of that, if it is even, whatever follows.
 pub fn written_tape_with_last_block()
-    ensures { (zeros : ℕ) (pieces : List Piece) (address : ℕ) (after : List ℕ) → All IsPiece pieces → address < 2 ^ 16 →
-        Means (written zeros pieces ++ (block_bytes (made_block address []) ++ after)) (pieces_placed pieces) (start_of address) }
+    ensures { (zeros : ℕ) (pieces : List Piece) (address : ℕ) (after : List ℕ) →
+        All IsPiece pieces → address < 2 ^ 16 →
+        Means (written zeros pieces ++ (block_bytes (made_block address []) ++ after))
+        (pieces_placed pieces) (start_of address) }
 {}
