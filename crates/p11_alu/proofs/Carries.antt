@@ -6,7 +6,7 @@ use Rattle.p11_alu.specs.declared.size.Size.{Size}
 use Rattle.p11_alu.specs.declared.size.Size.TheVariants.{Word, Byte}
 use Rattle.p11_alu.specs.Numbers.{modulus, sign_weight, val, sval, wrapped}
 use Rattle.p11_alu.specs.declared.codes.Codes.{Codes}
-use Rattle.p11_alu.specs.Results.{carry_of, result_with, neg_of, adc_of, sbc_of}
+use Rattle.p11_alu.specs.Results.{flag, result_with, neg_of, adc_of, sbc_of}
 
 -- a result and its codes, part by part
 same_result : (d e : ℕ) (n n' z z' v v' c c' : Bool) → d ≡ e → n ≡ n' → z ≡ z' → v ≡ v' → c ≡ c' → ◌≡◌ {A = ℕ × Codes} (d, record { n = n; z = z; v = v; c = c }) (e, record { n = n'; z = z'; v = v'; c = c' })
@@ -35,14 +35,14 @@ negated_carry Byte n h = grind (arith, nat_tests)
 
 -- n and C, stored
 abbrev pub carried : Size → ℕ → Bool → ℕ
-carried size n c = wrapped (modulus size) (pos (val size n) +ℤ pos (val size (carry_of c)))
+carried size n c = wrapped (modulus size) (pos (val size n) +ℤ pos (val size (flag c 1)))
 
-pub carried_value : (size : Size) (n : ℕ) (c : Bool) → carried size n c ≡ wrapped (modulus size) (pos (val size n) +ℤ pos (carry_of c))
+pub carried_value : (size : Size) (n : ℕ) (c : Bool) → carried size n c ≡ wrapped (modulus size) (pos (val size n) +ℤ pos (flag c 1))
 carried_value Word n c = refl
 carried_value Byte n true = refl
 carried_value Byte n false = refl
 
-pub carried_overflow : (size : Size) (n : ℕ) (c : Bool) → n < 65536 → not (int_eq (sval size n +ℤ sval size (carry_of c)) (sval size (carried size n c))) ≡ (c && (val size n == sign_weight size - 1))
+pub carried_overflow : (size : Size) (n : ℕ) (c : Bool) → n < 65536 → not (int_eq (sval size n +ℤ sval size (flag c 1)) (sval size (carried size n c))) ≡ (c && (val size n == sign_weight size - 1))
 carried_overflow Word n true h = grind (arith, nat_tests)
 carried_overflow Word n false h = grind (arith, nat_tests)
 carried_overflow Byte n true h = grind (arith, nat_tests)
@@ -56,20 +56,20 @@ carried_carry Byte n false h = grind (arith, nat_tests)
 
 -- n less C, stored
 abbrev pub borrowed : Size → ℕ → Bool → ℕ
-borrowed size n c = wrapped (modulus size) (pos (val size n) -ℤ pos (val size (carry_of c)))
+borrowed size n c = wrapped (modulus size) (pos (val size n) -ℤ pos (val size (flag c 1)))
 
-pub borrowed_value : (size : Size) (n : ℕ) (c : Bool) → borrowed size n c ≡ wrapped (modulus size) (pos (val size n) -ℤ pos (carry_of c))
+pub borrowed_value : (size : Size) (n : ℕ) (c : Bool) → borrowed size n c ≡ wrapped (modulus size) (pos (val size n) -ℤ pos (flag c 1))
 borrowed_value Word n c = refl
 borrowed_value Byte n true = refl
 borrowed_value Byte n false = refl
 
-pub borrowed_overflow : (size : Size) (n : ℕ) (c : Bool) → n < 65536 → not (int_eq (sval size n -ℤ sval size (carry_of c)) (sval size (borrowed size n c))) ≡ (c && (val size n == sign_weight size))
+pub borrowed_overflow : (size : Size) (n : ℕ) (c : Bool) → n < 65536 → not (int_eq (sval size n -ℤ sval size (flag c 1)) (sval size (borrowed size n c))) ≡ (c && (val size n == sign_weight size))
 borrowed_overflow Word n true h = grind (arith, nat_tests)
 borrowed_overflow Word n false h = grind (arith, nat_tests)
 borrowed_overflow Byte n true h = grind (arith, nat_tests)
 borrowed_overflow Byte n false h = grind (arith, nat_tests)
 
-pub borrowed_carry : (size : Size) (n : ℕ) (c : Bool) → nat_lt (val size n) (carry_of c) ≡ (c && (val size n == 0))
+pub borrowed_carry : (size : Size) (n : ℕ) (c : Bool) → nat_lt (val size n) (flag c 1) ≡ (c && (val size n == 0))
 borrowed_carry size n true = grind (arith, nat_tests)
 borrowed_carry size n false = grind (arith, nat_tests)
 
@@ -82,7 +82,7 @@ neg_computed size n d k s o h value sign overflow low =
     (overflow ∙ ap (λ x. not (int_eq (sval size 0 -ℤ sval size n) (sval size x))) e ∙ negated_overflow size n h)
     (ap (λ x. not (nat_eq x 0)) low ∙ negated_carry size n h)
 
-pub adc_computed : (size : Size) (n d k p : ℕ) (c s o : Bool) → n < 65536 → p ≡ carry_of c → d ≡ wrapped (modulus size) (pos (val size n) +ℤ pos (val size p)) → s ≡ int_lt (sval size d) (pos 0) → o ≡ not (int_eq (sval size n +ℤ sval size p) (sval size d)) → k ≡ val size n → ◌≡◌ {A = ℕ × Codes} (d, record { n = s; z = nat_eq d 0; v = o; c = nat_lt d k }) (adc_of size n c)
+pub adc_computed : (size : Size) (n d k p : ℕ) (c s o : Bool) → n < 65536 → p ≡ flag c 1 → d ≡ wrapped (modulus size) (pos (val size n) +ℤ pos (val size p)) → s ≡ int_lt (sval size d) (pos 0) → o ≡ not (int_eq (sval size n +ℤ sval size p) (sval size d)) → k ≡ val size n → ◌≡◌ {A = ℕ × Codes} (d, record { n = s; z = nat_eq d 0; v = o; c = nat_lt d k }) (adc_of size n c)
 unfolding adc_of
 adc_computed size n d k p c s o h weight value sign overflow low =
     let e : d ≡ carried size n c = value ∙ ap (λ x. wrapped (modulus size) (pos (val size n) +ℤ pos (val size x))) weight in
@@ -90,7 +90,7 @@ adc_computed size n d k p c s o h weight value sign overflow low =
     (rw (overflow, weight, e) (carried_overflow size n c h))
     (rw (e, low) (carried_carry size n c h))
 
-pub sbc_computed : (size : Size) (n d k p : ℕ) (c s o : Bool) → n < 65536 → p ≡ carry_of c → d ≡ wrapped (modulus size) (pos (val size n) -ℤ pos (val size p)) → s ≡ int_lt (sval size d) (pos 0) → o ≡ not (int_eq (sval size n -ℤ sval size p) (sval size d)) → k ≡ val size n → ◌≡◌ {A = ℕ × Codes} (d, record { n = s; z = nat_eq d 0; v = o; c = nat_lt k p }) (sbc_of size n c)
+pub sbc_computed : (size : Size) (n d k p : ℕ) (c s o : Bool) → n < 65536 → p ≡ flag c 1 → d ≡ wrapped (modulus size) (pos (val size n) -ℤ pos (val size p)) → s ≡ int_lt (sval size d) (pos 0) → o ≡ not (int_eq (sval size n -ℤ sval size p) (sval size d)) → k ≡ val size n → ◌≡◌ {A = ℕ × Codes} (d, record { n = s; z = nat_eq d 0; v = o; c = nat_lt k p }) (sbc_of size n c)
 unfolding sbc_of
 sbc_computed size n d k p c s o h weight value sign overflow low =
     let e : d ≡ borrowed size n c = value ∙ ap (λ x. wrapped (modulus size) (pos (val size n) -ℤ pos (val size x))) weight in

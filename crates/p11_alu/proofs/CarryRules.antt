@@ -1,12 +1,11 @@
 -- The rules of NEG, ADC and SBC are those of a difference and of a sum.
-use Rattle.std.proofs.Common.{◌≡◌, ℕ, ◌-◌, ◌<◌, Bool, true, false, not, ◌&&◌, ◌==◌, int_lt, ℤ, pos, ◌+ℤ◌, ◌-ℤ◌, refl, arith, sym, ◌∙◌}
+use Rattle.std.proofs.Common.{◌≡◌, ℕ, ◌-◌, ◌<◌, Bool, true, false, not, ◌&&◌, ◌==◌, ℤ, pos, ◌+ℤ◌, ◌-ℤ◌, refl, arith}
 use Rattle.std.specs.Ordering.{int_eq}
 use Rattle.std.proofs.lemmas.Bool.Decides.{nat_tests}
 use Rattle.p11_alu.specs.declared.size.Size.{Size}
 use Rattle.p11_alu.specs.declared.size.Size.TheVariants.{Word, Byte}
-use Rattle.p11_alu.specs.declared.codes.Codes.{Codes}
 use Rattle.p11_alu.specs.Numbers.{modulus, sign_weight, val, sval, wrapped}
-use Rattle.p11_alu.specs.Results.{carry_of, result_of, result_with, neg_of, adc_of, sbc_of}
+use Rattle.p11_alu.specs.Results.{flag, result_of, result_with, neg_of, adc_of, sbc_of}
 
 -- two results with one number, whose V and C are equal
 same_rule : (size : Size) (r : ℕ) (v c : Bool) (signed unsigned : ℤ) → r ≡ wrapped (modulus size) unsigned → v ≡ not (int_eq signed (sval size (wrapped (modulus size) unsigned))) → c ≡ not (int_eq unsigned (pos (wrapped (modulus size) unsigned))) → result_with size r v c ≡ result_of size signed unsigned
@@ -20,25 +19,25 @@ neg_borrow : (size : Size) (n : ℕ) → n < 65536 → not (wrapped (modulus siz
 neg_borrow Word n h = grind (arith, nat_tests)
 neg_borrow Byte n h = grind (arith, nat_tests)
 
-adc_overflow : (size : Size) (n : ℕ) (c : Bool) → n < 65536 → (c && (val size n == sign_weight size - 1)) ≡ not (int_eq (sval size n +ℤ pos (carry_of c)) (sval size (wrapped (modulus size) (pos (val size n) +ℤ pos (carry_of c)))))
+adc_overflow : (size : Size) (n : ℕ) (c : Bool) → n < 65536 → (c && (val size n == sign_weight size - 1)) ≡ not (int_eq (sval size n +ℤ pos (flag c 1)) (sval size (wrapped (modulus size) (pos (val size n) +ℤ pos (flag c 1)))))
 adc_overflow Word n true h = grind (arith, nat_tests)
 adc_overflow Word n false h = grind (arith, nat_tests)
 adc_overflow Byte n true h = grind (arith, nat_tests)
 adc_overflow Byte n false h = grind (arith, nat_tests)
 
-adc_carry : (size : Size) (n : ℕ) (c : Bool) → n < 65536 → (c && (val size n == modulus size - 1)) ≡ not (int_eq (pos (val size n) +ℤ pos (carry_of c)) (pos (wrapped (modulus size) (pos (val size n) +ℤ pos (carry_of c)))))
+adc_carry : (size : Size) (n : ℕ) (c : Bool) → n < 65536 → (c && (val size n == modulus size - 1)) ≡ not (int_eq (pos (val size n) +ℤ pos (flag c 1)) (pos (wrapped (modulus size) (pos (val size n) +ℤ pos (flag c 1)))))
 adc_carry Word n true h = grind (arith, nat_tests)
 adc_carry Word n false h = grind (arith, nat_tests)
 adc_carry Byte n true h = grind (arith, nat_tests)
 adc_carry Byte n false h = grind (arith, nat_tests)
 
-sbc_overflow : (size : Size) (n : ℕ) (c : Bool) → n < 65536 → (c && (val size n == sign_weight size)) ≡ not (int_eq (sval size n -ℤ pos (carry_of c)) (sval size (wrapped (modulus size) (pos (val size n) -ℤ pos (carry_of c)))))
+sbc_overflow : (size : Size) (n : ℕ) (c : Bool) → n < 65536 → (c && (val size n == sign_weight size)) ≡ not (int_eq (sval size n -ℤ pos (flag c 1)) (sval size (wrapped (modulus size) (pos (val size n) -ℤ pos (flag c 1)))))
 sbc_overflow Word n true h = grind (arith, nat_tests)
 sbc_overflow Word n false h = grind (arith, nat_tests)
 sbc_overflow Byte n true h = grind (arith, nat_tests)
 sbc_overflow Byte n false h = grind (arith, nat_tests)
 
-sbc_borrow : (size : Size) (n : ℕ) (c : Bool) → n < 65536 → (c && (val size n == 0)) ≡ not (int_eq (pos (val size n) -ℤ pos (carry_of c)) (pos (wrapped (modulus size) (pos (val size n) -ℤ pos (carry_of c)))))
+sbc_borrow : (size : Size) (n : ℕ) (c : Bool) → n < 65536 → (c && (val size n == 0)) ≡ not (int_eq (pos (val size n) -ℤ pos (flag c 1)) (pos (wrapped (modulus size) (pos (val size n) -ℤ pos (flag c 1)))))
 sbc_borrow Word n true h = grind (arith, nat_tests)
 sbc_borrow Word n false h = grind (arith, nat_tests)
 sbc_borrow Byte n true h = grind (arith, nat_tests)
@@ -50,14 +49,14 @@ neg_of-result_of size n h =
     same_rule size _ _ _ (pos 0 -ℤ sval size n) (pos 0 -ℤ pos (val size n)) refl
     (neg_overflow size n h) (neg_borrow size n h)
 
-pub adc_of-result_of : (size : Size) (n : ℕ) (c : Bool) → n < 65536 → adc_of size n c ≡ result_of size (sval size n +ℤ pos (carry_of c)) (pos (val size n) +ℤ pos (carry_of c))
+pub adc_of-result_of : (size : Size) (n : ℕ) (c : Bool) → n < 65536 → adc_of size n c ≡ result_of size (sval size n +ℤ pos (flag c 1)) (pos (val size n) +ℤ pos (flag c 1))
 unfolding adc_of
 adc_of-result_of size n c h =
-    same_rule size _ _ _ (sval size n +ℤ pos (carry_of c)) (pos (val size n) +ℤ pos (carry_of c)) refl
+    same_rule size _ _ _ (sval size n +ℤ pos (flag c 1)) (pos (val size n) +ℤ pos (flag c 1)) refl
     (adc_overflow size n c h) (adc_carry size n c h)
 
-pub sbc_of-result_of : (size : Size) (n : ℕ) (c : Bool) → n < 65536 → sbc_of size n c ≡ result_of size (sval size n -ℤ pos (carry_of c)) (pos (val size n) -ℤ pos (carry_of c))
+pub sbc_of-result_of : (size : Size) (n : ℕ) (c : Bool) → n < 65536 → sbc_of size n c ≡ result_of size (sval size n -ℤ pos (flag c 1)) (pos (val size n) -ℤ pos (flag c 1))
 unfolding sbc_of
 sbc_of-result_of size n c h =
-    same_rule size _ _ _ (sval size n -ℤ pos (carry_of c)) (pos (val size n) -ℤ pos (carry_of c)) refl
+    same_rule size _ _ _ (sval size n -ℤ pos (flag c 1)) (pos (val size n) -ℤ pos (flag c 1)) refl
     (sbc_overflow size n c h) (sbc_borrow size n c h)

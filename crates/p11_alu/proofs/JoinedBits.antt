@@ -5,7 +5,7 @@ use Rattle.std.proofs.lemmas.Nat.{or_shifted}
 use Rattle.p11_alu.specs.declared.size.Size.{Size}
 use Rattle.p11_alu.specs.declared.size.Size.TheVariants.{Word, Byte}
 use Rattle.p11_alu.specs.Numbers.{modulus, sign_weight, val, sval}
-use Rattle.p11_alu.specs.Results.{carry_of}
+use Rattle.p11_alu.specs.Results.{flag}
 use Rattle.p11_alu.specs.Shifts.{sign_of}
 
 -- the sign bit says that the signed value is below 0
@@ -13,7 +13,7 @@ pub sign_of-val : (size : Size) (n : ℕ) → n < 65536 → sign_of (sign_weight
 sign_of-val Word n h = grind (arith, nat_tests)
 sign_of-val Byte n h = grind (arith, nat_tests)
 
-carry_below : (c : Bool) → carry_of c < 2
+carry_below : (c : Bool) → flag c 1 < 2
 carry_below true = omega arith
 carry_below false = omega arith
 
@@ -22,11 +22,11 @@ joined_low n p h =
     let e : n * 2 % 65536 ≡ n % 32768 * 2 = omega arith in
     rw e (or_shifted (n % 32768) 1 p h)
 
-pub val-joined_low : (size : Size) (n p : ℕ) (c : Bool) → p ≡ carry_of c → val size (bit_or (n * 2 % 65536) p) ≡ (2 * val size n + carry_of c) % modulus size
+pub val-joined_low : (size : Size) (n p : ℕ) (c : Bool) → p ≡ flag c 1 → val size (bit_or (n * 2 % 65536) p) ≡ (2 * val size n + flag c 1) % modulus size
 val-joined_low Word n p c e =
-    let h = carry_below c in rw (e, joined_low n (carry_of c) h) (omega arith)
+    let h = carry_below c in rw (e, joined_low n (flag c 1) h) (omega arith)
 val-joined_low Byte n p c e =
-    let h = carry_below c in rw (e, joined_low n (carry_of c) h) (omega arith)
+    let h = carry_below c in rw (e, joined_low n (flag c 1) h) (omega arith)
 
 pub swapped_bytes : (w : ℕ) → w < 65536 → bit_or (w * 256 % 65536) (w / 256) ≡ w % 256 * 256 + w / 256
 swapped_bytes w h =

@@ -1,5 +1,5 @@
 -- Results of sums and differences, and condition codes by whole numbers.
-use Rattle.std.specs.Prelude.{ℕ, ◌-◌, ◌==◌, Bool, not, ◌&&◌, true, false, ℤ, pos, ◌+ℤ◌, ◌-ℤ◌, int_lt}
+use Rattle.std.specs.Prelude.{ℕ, ◌-◌, ◌==◌, Bool, not, ◌&&◌, false, ℤ, pos, ◌+ℤ◌, ◌-ℤ◌, int_lt, if◌then◌else◌}
 use Rattle.std.specs.Ordering.{int_eq}
 use Rattle.p11_alu.specs.declared.size.Size.{Size}
 use Rattle.p11_alu.specs.declared.size.Size.TheVariants.{Word}
@@ -31,10 +31,9 @@ result_with size r v c = (r, record { n = int_lt (sval size r) (pos 0); z = r ==
 abbrev pub with_carry : Bool → ℕ × Codes → ℕ × Codes
 with_carry c (r, codes) = (r, record codes { c = c })
 
--- the number that C stands for in a sum
-abbrev pub carry_of : Bool → ℕ
-carry_of true = 1
-carry_of false = 0
+-- a flag as a number: its weight or 0
+abbrev pub flag : Bool → ℕ → ℕ
+flag is_set weight = if is_set then weight else 0
 
 -- A result that clears V, with C as handed in (MOV, BIT, BIC, BIS, XOR, COM, CLR, TST, SXT, MFPI,
 -- MTPI).
@@ -77,12 +76,12 @@ neg_of size n =
 -- C where it was all ones and C was 1.
 unfoldable pub adc_of : Size → ℕ → Bool → ℕ × Codes
 adc_of size n c =
-    result_with size (wrapped (modulus size) (pos (val size n) +ℤ pos (carry_of c)))
+    result_with size (wrapped (modulus size) (pos (val size n) +ℤ pos (flag c 1)))
     (c && (val size n == sign_weight size - 1)) (c && (val size n == modulus size - 1))
 
 -- SBC: the operand minus C; V where the operand was the least negative number and C was 1,
 -- C where it was 0 and C was 1.
 unfoldable pub sbc_of : Size → ℕ → Bool → ℕ × Codes
 sbc_of size n c =
-    result_with size (wrapped (modulus size) (pos (val size n) -ℤ pos (carry_of c)))
+    result_with size (wrapped (modulus size) (pos (val size n) -ℤ pos (flag c 1)))
     (c && (val size n == sign_weight size)) (c && (val size n == 0))

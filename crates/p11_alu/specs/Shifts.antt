@@ -6,7 +6,7 @@ use Rattle.p11_alu.specs.declared.direction.Direction.{Direction}
 use Rattle.p11_alu.specs.declared.direction.Direction.TheVariants.{Left, Right}
 use Rattle.p11_alu.specs.declared.codes.Codes.{Codes}
 use Rattle.p11_alu.specs.Numbers.{modulus, sign_weight, val, sval}
-use Rattle.p11_alu.specs.Results.{carry_of, result_with, logic_codes}
+use Rattle.p11_alu.specs.Results.{flag, result_with, logic_codes}
 
 -- the sign bit of n, where it weighs h
 abbrev pub sign_of : ℕ → ℕ → Bool
@@ -33,7 +33,7 @@ moved_result size r out = result_with size r (exclusive_or (int_lt (sval size r)
 -- out.
 unfoldable pub rotate_of : Size → Direction → ℕ → Bool → ℕ × Codes
 rotate_of size Left n c =
-    moved_result size ((2 * val size n + carry_of c) % modulus size)
+    moved_result size ((2 * val size n + flag c 1) % modulus size)
     (sign_of (sign_weight size) (val size n))
 rotate_of size Right n c =
     moved_result size (val size n / 2 + (if c then sign_weight size else 0)) (val size n % 2 == 1)

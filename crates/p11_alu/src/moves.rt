@@ -1,6 +1,6 @@
 ghost use Rattle.std.specs.Prelude.{◌≡◌, ◌+◌, ◌*◌, ◌/◌, ◌%◌, if◌then◌else◌};
 ghost use Rattle.p11_alu.specs.Numbers.{Fits, modulus, sign_weight, val};
-ghost use Rattle.p11_alu.specs.Results.{carry_of};
+ghost use Rattle.p11_alu.specs.Results.{flag};
 ghost use Rattle.p11_alu.specs.Shifts.{moved_result, rotate_of, shift_of, swab_of};
 
 use crate::codes::Codes;
@@ -10,7 +10,7 @@ use crate::size::Size;
 
 /// One place to the left, with a new lowest bit.
 fn moved_left(size: Size, number: u16, bit: bool) -> u16
-    ensures value { result ≡ (2 * val size number + carry_of bit) % modulus size }
+    ensures value { result ≡ (2 * val size number + flag bit 1) % modulus size }
     ensures fits { Fits size result }
 {
     cut(size, number << 1 | carry(bit))

@@ -1,7 +1,7 @@
 ghost use Rattle.std.specs.Prelude.{◌≡◌, ◌<◌, ℕ, Bool, ◌+ℤ◌, ◌-ℤ◌, int_lt, not, pos};
 ghost use Rattle.std.specs.Ordering.{int_eq};
 ghost use Rattle.p11_alu.specs.Numbers.{Fits, modulus, val, sval, wrapped};
-ghost use Rattle.p11_alu.specs.Results.{logic_codes, add_of, sub_of, cmp_codes, inc_of, dec_of, neg_of, adc_of, sbc_of, carry_of, result_of};
+ghost use Rattle.p11_alu.specs.Results.{logic_codes, add_of, sub_of, cmp_codes, inc_of, dec_of, neg_of, adc_of, sbc_of, flag, result_of};
 
 use crate::codes::Codes;
 use crate::size::Size;
@@ -156,7 +156,7 @@ pub fn neg(size: Size, number: u16) -> (u16, Codes)
 
 /// The number that C stands for in a sum.
 pub(crate) fn carry(c: bool) -> u16
-    ensures { result ≡ carry_of c }
+    ensures { result ≡ flag c 1 }
 {
     u16::from(c)
 }
@@ -217,11 +217,11 @@ pub fn carry_rules()
     ensures adc { (size : Size) (n : ℕ) (c : Bool) → n < 65536 →
         adc_of size n c
         ≡ result_of size
-        (sval size n +ℤ pos (carry_of c))
-        (pos (val size n) +ℤ pos (carry_of c)) }
+        (sval size n +ℤ pos (flag c 1))
+        (pos (val size n) +ℤ pos (flag c 1)) }
     ensures sbc { (size : Size) (n : ℕ) (c : Bool) → n < 65536 →
         sbc_of size n c
         ≡ result_of size
-        (sval size n -ℤ pos (carry_of c))
-        (pos (val size n) -ℤ pos (carry_of c)) }
+        (sval size n -ℤ pos (flag c 1))
+        (pos (val size n) -ℤ pos (flag c 1)) }
 {}
