@@ -1,6 +1,7 @@
 ghost use Rattle.std.specs.Prelude.{◌≡◌, ◌<◌, ◌%◌, ◌/◌, ◌++◌};
-ghost use Rattle.p11_decode.specs.Table.{code_rows, control_rows, double_rows, first_fit, mode_at, named_codes, op_of, operand_at, operate_rows, register_at, register_rows, return_rows, single_rows, size, sized_double_rows, trap_rows};
+ghost use Rattle.p11_decode.specs.Table.{code_rows, control_rows, double_rows, first_fit, in_register, mode_at, named_codes, op_of, operand_at, operate_rows, register_at, register_rows, return_rows, single_rows, size, sized_double_rows, trap_rows};
 
+use crate::groups::{CodesOp, DoubleOp, FillOp, JudgeOp, ReturnOp, SingleOp, TrapOp};
 use crate::op::{Condition, Count, NamedCodes, Op};
 use crate::operand::{Mode, Operand, Register, Size};
 
@@ -46,6 +47,16 @@ fn operand_of(bits: u16) -> Operand
     }
 }
 
+// The operand that is a register itself.
+fn in_register(register: Register) -> Operand
+    ensures { result ≡ in_register register }
+{
+    Operand {
+        mode: Mode::Register,
+        register,
+    }
+}
+
 // The count in the low six bits.
 fn count_of(word: u16) -> Count
     ensures { result ≡ word % 64 }
@@ -88,18 +99,18 @@ pub fn decode(word: u16) -> Op
     let size = size_of(word);
     let destination = operand_of(word);
     match word & 0o077700 {
-        0o005000 => Op::Clr(size, destination),
-        0o005100 => Op::Com(size, destination),
-        0o005200 => Op::Inc(size, destination),
-        0o005300 => Op::Dec(size, destination),
-        0o005400 => Op::Neg(size, destination),
-        0o005500 => Op::Adc(size, destination),
-        0o005600 => Op::Sbc(size, destination),
+        0o005000 => Op::Fill(FillOp::Clr, size, destination),
+        0o005100 => Op::Single(SingleOp::Com, size, destination),
+        0o005200 => Op::Single(SingleOp::Inc, size, destination),
+        0o005300 => Op::Single(SingleOp::Dec, size, destination),
+        0o005400 => Op::Single(SingleOp::Neg, size, destination),
+        0o005500 => Op::Single(SingleOp::Adc, size, destination),
+        0o005600 => Op::Single(SingleOp::Sbc, size, destination),
         0o005700 => Op::Tst(size, destination),
-        0o006000 => Op::Ror(size, destination),
-        0o006100 => Op::Rol(size, destination),
-        0o006200 => Op::Asr(size, destination),
-        0o006300 => Op::Asl(size, destination),
+        0o006000 => Op::Single(SingleOp::Ror, size, destination),
+        0o006100 => Op::Single(SingleOp::Rol, size, destination),
+        0o006200 => Op::Single(SingleOp::Asr, size, destination),
+        0o006300 => Op::Single(SingleOp::Asl, size, destination),
         _ => decode_single(word),
     }
 }
@@ -110,11 +121,11 @@ fn decode_single(word: u16) -> Op
     let destination = operand_of(word);
     match word & 0o177700 {
         0o000100 => Op::Jmp(destination),
-        0o000300 => Op::Swab(destination),
+        0o000300 => Op::Single(SingleOp::Swab, Size::Word, destination),
         0o006400 => Op::Mark(count_of(word)),
         0o006500 => Op::Mfpi(destination),
         0o006600 => Op::Mtpi(destination),
-        0o006700 => Op::Sxt(destination),
+        0o006700 => Op::Fill(FillOp::Sxt, Size::Word, destination),
         _ => decode_sized_double(word),
     }
 }
@@ -127,10 +138,10 @@ fn decode_sized_double(word: u16) -> Op
     let destination = operand_of(word);
     match word & 0o070000 {
         0o010000 => Op::Mov(size, source, destination),
-        0o020000 => Op::Cmp(size, source, destination),
-        0o030000 => Op::Bit(size, source, destination),
-        0o040000 => Op::Bic(size, source, destination),
-        0o050000 => Op::Bis(size, source, destination),
+        0o020000 => Op::Judge(JudgeOp::Cmp, size, source, destination),
+        0o030000 => Op::Judge(JudgeOp::Bit, size, source, destination),
+        0o040000 => Op::Double(DoubleOp::Bic, size, source, destination),
+        0o050000 => Op::Double(DoubleOp::Bis, size, source, destination),
         _ => decode_double(word),
     }
 }
@@ -141,8 +152,8 @@ fn decode_double(word: u16) -> Op
     let source = operand_of(word >> 6);
     let destination = operand_of(word);
     match word & 0o170000 {
-        0o060000 => Op::Add(source, destination),
-        0o160000 => Op::Sub(source, destination),
+        0o060000 => Op::Double(DoubleOp::Add, Size::Word, source, destination),
+        0o160000 => Op::Double(DoubleOp::Sub, Size::Word, source, destination),
         _ => decode_with_register(word),
     }
 }
@@ -158,7 +169,7 @@ fn decode_with_register(word: u16) -> Op
         0o071000 => Op::Div(register, operand),
         0o072000 => Op::Ash(register, operand),
         0o073000 => Op::Ashc(register, operand),
-        0o074000 => Op::Xor(register, operand),
+        0o074000 => Op::Double(DoubleOp::Xor, Size::Word, in_register(register), operand),
         0o077000 => Op::Sob(register, count_of(word)),
         _ => decode_branch(word),
     }
@@ -201,8 +212,8 @@ fn decode_trap(word: u16) -> Op
     ensures { result ≡ first_fit (trap_rows ++ (operate_rows ++ code_rows)) word }
 {
     match word & 0o177400 {
-        0o104000 => Op::Emt,
-        0o104400 => Op::Trap,
+        0o104000 => Op::Trap(TrapOp::Emt),
+        0o104400 => Op::Trap(TrapOp::Trap),
         _ => decode_operate(word),
     }
 }
@@ -213,11 +224,11 @@ fn decode_operate(word: u16) -> Op
     match word {
         0o000000 => Op::Halt,
         0o000001 => Op::Wait,
-        0o000002 => Op::Rti,
-        0o000003 => Op::Bpt,
-        0o000004 => Op::Iot,
+        0o000002 => Op::Return(ReturnOp::Rti),
+        0o000003 => Op::Trap(TrapOp::Bpt),
+        0o000004 => Op::Trap(TrapOp::Iot),
         0o000005 => Op::Reset,
-        0o000006 => Op::Rtt,
+        0o000006 => Op::Return(ReturnOp::Rtt),
         _ => decode_codes(word),
     }
 }
@@ -226,8 +237,8 @@ fn decode_codes(word: u16) -> Op
     ensures { result ≡ first_fit code_rows word }
 {
     match word & 0o177760 {
-        0o000240 => Op::ClearCodes(named_codes_of(word)),
-        0o000260 => Op::SetCodes(named_codes_of(word)),
+        0o000240 => Op::Codes(CodesOp::Clear, named_codes_of(word)),
+        0o000260 => Op::Codes(CodesOp::Set, named_codes_of(word)),
         _ => Op::Reserved,
     }
 }

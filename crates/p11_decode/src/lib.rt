@@ -5,6 +5,8 @@
 #![tactic(auto)]
 
 mod decoding;
+mod equality;
+mod groups;
 mod laws;
 mod op;
 mod operand;
@@ -12,6 +14,8 @@ mod operand;
 mod tests;
 
 pub use decoding::decode;
+pub use equality::same;
+pub use groups::{CodesOp, DoubleOp, FillOp, JudgeOp, ReturnOp, SingleOp, TrapOp};
 pub use laws::{at_most_one_row_fits, the_row_that_fits_decides};
 pub use op::{Condition, Count, NamedCodes, Op};
 pub use operand::{Mode, Operand, Register, Size};

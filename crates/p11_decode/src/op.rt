@@ -1,5 +1,6 @@
 ghost use Rattle.std.specs.Prelude.{◌≡◌, ℕ, ◌<◌};
 
+use crate::groups::{CodesOp, DoubleOp, FillOp, JudgeOp, ReturnOp, SingleOp, TrapOp};
 use crate::operand::{Operand, Register, Size};
 use std::marker::Model;
 
@@ -81,58 +82,43 @@ impl Count {
     }
 }
 
-/// An instruction with its operands. The variants have the names of the assembler's mnemonics. Of two operands the
-/// source comes first, and a branch holds its offset in words as the eight bits of a two's complement number.
+/// An instruction with its operands, of which the source comes first. Instructions that differ only in what they work
+/// out are a group of one variant. The others have the names of the assembler's mnemonics. A branch holds its offset in
+/// words as the eight bits of a two's complement number.
 #[derive(Clone, Copy, Debug, PartialEq, Eq)]
 pub enum Op {
-    Halt,
-    Wait,
-    Rti,
-    Bpt,
-    Iot,
-    Reset,
-    Rtt,
-    Jmp(Operand),
-    Rts(Register),
-    /// CLN, CLZ, CLV, CLC, CCC and all that clear several codes at once; NOP names none.
-    ClearCodes(NamedCodes),
-    /// SEN, SEZ, SEV, SEC, SCC and all that set several codes at once.
-    SetCodes(NamedCodes),
-    Swab(Operand),
-    /// BR and the conditional branches.
-    Branch(Condition, u8),
-    Jsr(Register, Operand),
-    Clr(Size, Operand),
-    Com(Size, Operand),
-    Inc(Size, Operand),
-    Dec(Size, Operand),
-    Neg(Size, Operand),
-    Adc(Size, Operand),
-    Sbc(Size, Operand),
+    /// Reads an operand, works out a value from it, and writes the value back.
+    Single(SingleOp, Size, Operand),
+    /// Writes a value to an operand that isn't read.
+    Fill(FillOp, Size, Operand),
     Tst(Size, Operand),
-    Ror(Size, Operand),
-    Rol(Size, Operand),
-    Asr(Size, Operand),
-    Asl(Size, Operand),
-    Mark(Count),
-    Mfpi(Operand),
-    Mtpi(Operand),
-    Sxt(Operand),
+    /// Works out a value from source and destination, and writes it to the destination. The source of XOR is its
+    /// register, in mode 0.
+    Double(DoubleOp, Size, Operand, Operand),
+    /// Sets the condition codes by source and destination.
+    Judge(JudgeOp, Size, Operand, Operand),
     Mov(Size, Operand, Operand),
-    Cmp(Size, Operand, Operand),
-    Bit(Size, Operand, Operand),
-    Bic(Size, Operand, Operand),
-    Bis(Size, Operand, Operand),
-    Add(Operand, Operand),
-    Sub(Operand, Operand),
     Mul(Register, Operand),
     Div(Register, Operand),
     Ash(Register, Operand),
     Ashc(Register, Operand),
-    Xor(Register, Operand),
+    /// BR and the conditional branches.
+    Branch(Condition, u8),
+    Jmp(Operand),
+    Jsr(Register, Operand),
+    Rts(Register),
+    Mark(Count),
     Sob(Register, Count),
-    Emt,
-    Trap,
+    /// Clears or sets condition codes.
+    Codes(CodesOp, NamedCodes),
+    Trap(TrapOp),
+    /// A return from a trap or an interrupt.
+    Return(ReturnOp),
+    Halt,
+    Wait,
+    Reset,
+    Mfpi(Operand),
+    Mtpi(Operand),
     /// A word that is no instruction.
     Reserved,
 }

@@ -1,5 +1,6 @@
 use crate::{
-    Condition, Count, Mode, NamedCodes, Op, Operand, Register, Size, at_most_one_row_fits, decode,
+    CodesOp, Condition, Count, DoubleOp, FillOp, JudgeOp, Mode, NamedCodes, Op, Operand, Register,
+    ReturnOp, SingleOp, Size, TrapOp, at_most_one_row_fits, decode, same,
     the_row_that_fits_decides,
 };
 use std::process::Abort;
@@ -18,6 +19,16 @@ const BETWEEN: Operand = Operand {
 const LAST: Operand = Operand {
     mode: Mode::IndexDeferred,
     register: Register::Pc,
+};
+
+const R1: Operand = Operand {
+    mode: Mode::Register,
+    register: Register::R1,
+};
+
+const R2: Operand = Operand {
+    mode: Mode::Register,
+    register: Register::R2,
 };
 
 // The first word of a row, one between, and its last.
@@ -85,40 +96,69 @@ fn expect_with_register<F: Fn(Register, Operand) -> Op>(rt: &impl Abort, code: u
 
 #[test]
 fn instructions_of_one_operand(rt: HostRuntime) {
-    expect_sized_single(&rt, 0o005000, 0o105000, Op::Clr);
-    expect_sized_single(&rt, 0o005100, 0o105100, Op::Com);
-    expect_sized_single(&rt, 0o005200, 0o105200, Op::Inc);
-    expect_sized_single(&rt, 0o005300, 0o105300, Op::Dec);
-    expect_sized_single(&rt, 0o005400, 0o105400, Op::Neg);
-    expect_sized_single(&rt, 0o005500, 0o105500, Op::Adc);
-    expect_sized_single(&rt, 0o005600, 0o105600, Op::Sbc);
+    let singles = [
+        (0o005100, SingleOp::Com),
+        (0o005200, SingleOp::Inc),
+        (0o005300, SingleOp::Dec),
+        (0o005400, SingleOp::Neg),
+        (0o005500, SingleOp::Adc),
+        (0o005600, SingleOp::Sbc),
+        (0o006000, SingleOp::Ror),
+        (0o006100, SingleOp::Rol),
+        (0o006200, SingleOp::Asr),
+        (0o006300, SingleOp::Asl),
+    ];
+    for (code, op) in singles {
+        expect_sized_single(&rt, code, code | 0o100000, |size, to| {
+            Op::Single(op, size, to)
+        });
+    }
+    expect_sized_single(&rt, 0o005000, 0o105000, |size, to| {
+        Op::Fill(FillOp::Clr, size, to)
+    });
     expect_sized_single(&rt, 0o005700, 0o105700, Op::Tst);
-    expect_sized_single(&rt, 0o006000, 0o106000, Op::Ror);
-    expect_sized_single(&rt, 0o006100, 0o106100, Op::Rol);
-    expect_sized_single(&rt, 0o006200, 0o106200, Op::Asr);
-    expect_sized_single(&rt, 0o006300, 0o106300, Op::Asl);
     expect_single(&rt, 0o000100, Op::Jmp);
-    expect_single(&rt, 0o000300, Op::Swab);
+    expect_single(&rt, 0o000300, |to| {
+        Op::Single(SingleOp::Swab, Size::Word, to)
+    });
     expect_single(&rt, 0o006500, Op::Mfpi);
     expect_single(&rt, 0o006600, Op::Mtpi);
-    expect_single(&rt, 0o006700, Op::Sxt);
+    expect_single(&rt, 0o006700, |to| Op::Fill(FillOp::Sxt, Size::Word, to));
 }
 
 #[test]
 fn instructions_of_two_operands(rt: HostRuntime) {
     expect_sized_double(&rt, 0o010000, 0o110000, Op::Mov);
-    expect_sized_double(&rt, 0o020000, 0o120000, Op::Cmp);
-    expect_sized_double(&rt, 0o030000, 0o130000, Op::Bit);
-    expect_sized_double(&rt, 0o040000, 0o140000, Op::Bic);
-    expect_sized_double(&rt, 0o050000, 0o150000, Op::Bis);
-    expect_double(&rt, 0o060000, Op::Add);
-    expect_double(&rt, 0o160000, Op::Sub);
+    expect_sized_double(&rt, 0o020000, 0o120000, |size, from, to| {
+        Op::Judge(JudgeOp::Cmp, size, from, to)
+    });
+    expect_sized_double(&rt, 0o030000, 0o130000, |size, from, to| {
+        Op::Judge(JudgeOp::Bit, size, from, to)
+    });
+    expect_sized_double(&rt, 0o040000, 0o140000, |size, from, to| {
+        Op::Double(DoubleOp::Bic, size, from, to)
+    });
+    expect_sized_double(&rt, 0o050000, 0o150000, |size, from, to| {
+        Op::Double(DoubleOp::Bis, size, from, to)
+    });
+    expect_double(&rt, 0o060000, |from, to| {
+        Op::Double(DoubleOp::Add, Size::Word, from, to)
+    });
+    expect_double(&rt, 0o160000, |from, to| {
+        Op::Double(DoubleOp::Sub, Size::Word, from, to)
+    });
     expect_with_register(&rt, 0o004000, Op::Jsr);
     expect_with_register(&rt, 0o070000, Op::Mul);
     expect_with_register(&rt, 0o071000, Op::Div);
     expect_with_register(&rt, 0o072000, Op::Ash);
     expect_with_register(&rt, 0o073000, Op::Ashc);
-    expect_with_register(&rt, 0o074000, Op::Xor);
+    expect_with_register(&rt, 0o074000, |register, to| {
+        let from = Operand {
+            mode: Mode::Register,
+            register,
+        };
+        Op::Double(DoubleOp::Xor, Size::Word, from, to)
+    });
 }
 
 #[test]
@@ -213,17 +253,17 @@ fn instructions_of_a_whole_word_and_traps(rt: HostRuntime) {
     let words = [
         (0o000000, Op::Halt),
         (0o000001, Op::Wait),
-        (0o000002, Op::Rti),
-        (0o000003, Op::Bpt),
-        (0o000004, Op::Iot),
+        (0o000002, Op::Return(ReturnOp::Rti)),
+        (0o000003, Op::Trap(TrapOp::Bpt)),
+        (0o000004, Op::Trap(TrapOp::Iot)),
         (0o000005, Op::Reset),
-        (0o000006, Op::Rtt),
-        (0o104000, Op::Emt),
-        (0o104123, Op::Emt),
-        (0o104377, Op::Emt),
-        (0o104400, Op::Trap),
-        (0o104567, Op::Trap),
-        (0o104777, Op::Trap),
+        (0o000006, Op::Return(ReturnOp::Rtt)),
+        (0o104000, Op::Trap(TrapOp::Emt)),
+        (0o104123, Op::Trap(TrapOp::Emt)),
+        (0o104377, Op::Trap(TrapOp::Emt)),
+        (0o104400, Op::Trap(TrapOp::Trap)),
+        (0o104567, Op::Trap(TrapOp::Trap)),
+        (0o104777, Op::Trap(TrapOp::Trap)),
     ];
     for (word, op) in words {
         assert_eq!(rt; decode(word), op, "at {word:o}");
@@ -245,10 +285,14 @@ fn condition_code_instructions(rt: HostRuntime) {
     for (bits, codes) in codes {
         assert_eq!(rt;
             decode(0o000240 | bits),
-            Op::ClearCodes(codes),
+            Op::Codes(CodesOp::Clear, codes),
             "at {bits:o}"
         );
-        assert_eq!(rt; decode(0o000260 | bits), Op::SetCodes(codes), "at {bits:o}");
+        assert_eq!(rt;
+            decode(0o000260 | bits),
+            Op::Codes(CodesOp::Set, codes),
+            "at {bits:o}"
+        );
     }
 }
 
@@ -263,6 +307,15 @@ fn words_beside_the_instructions_are_reserved(rt: HostRuntime) {
         assert_eq!(rt; decode(word), Op::Reserved, "at {word:o}");
         at_most_one_row_fits(word);
         the_row_that_fits_decides(word);
+    }
+}
+
+#[test]
+fn instructions_are_the_same_with_all_their_operands(rt: HostRuntime) {
+    let mov = decode(0o010102);
+    assert!(rt; same(mov, Op::Mov(Size::Word, R1, R2)));
+    for other in [0o010103, 0o010202, 0o110102, 0o010112, 0o060102, 0o005002] {
+        assert!(rt; !same(mov, decode(other)), "at {other:o}");
     }
 }
 
