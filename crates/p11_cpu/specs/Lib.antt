@@ -1,9 +1,8 @@
-pub mod Memory
+pub mod Words
 pub mod State
 pub mod Prepared
 pub mod Step
 pub mod Registers
-pub mod Bus
 pub mod References
 pub mod Operands
 pub mod Moves

@@ -7,7 +7,7 @@ use Rattle.p11_cpu.specs.declared.registers.ConsoleRegister.{ConsoleRegister}
 use Rattle.p11_cpu.specs.declared.registers.ConsoleRegister.TheVariants.{R0, R1, R2, R3, R4, R5, KernelSp, Pc, UserSp, Status}
 use Rattle.p11_cpu.specs.State.{Processor, HardwareState, State, hardware_of, with_hardware}
 use Rattle.p11_cpu.specs.Registers.{with_register}
-use Rattle.p11_cpu.specs.Bus.{new_bus}
+use Rattle.p11_unibus.specs.State.{new_bus}
 use Rattle.p11_cpu.specs.References.{see, change, after_read, answers}
 use Rattle.p11_cpu.specs.ProcessorControl.{initialized}
 

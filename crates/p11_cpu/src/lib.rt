@@ -4,12 +4,10 @@
 //! `Instructions.antt` the list of moves of each instruction.
 #![tactic(auto)]
 
-mod bus;
 mod double_operand;
 mod hardware;
 mod instructions;
 mod machine;
-mod memory;
 mod operand;
 mod processor_control;
 mod program_control;
@@ -23,6 +21,7 @@ mod tests;
 mod trap;
 mod turn;
 mod turn_number;
+mod words;
 
 pub use machine::Machine;
 pub use registers::{ConsoleRegister, Registers};

@@ -1,10 +1,11 @@
-ghost use Rattle.std.specs.Prelude.{◌≡◌};
+ghost use Rattle.std.specs.Prelude.{◌≡◌, ◌==◌};
 ghost use Rattle.p11_cpu.specs.Instructions.{execute_of};
 ghost use Rattle.p11_cpu.specs.ProgramControl.{is_taken, branch_address, branched, counted_back};
 
 use crate::hardware::Hardware;
 use crate::trap::Trap;
 use crate::turn_number::TurnNumber;
+use crate::words::{minus, plus};
 use p11_alu::Codes;
 use p11_decode::{Condition, Count, Op, Operand, Register};
 use std::alloc::Allocator;
@@ -33,7 +34,8 @@ fn takes(condition: Condition, codes: Codes) -> bool
     }
 }
 
-/// Where a branch goes from the word after it, by its offset in words.
+/// Where a branch goes from the word after it, by its signed offset in words.
+#[tactic(auto, unfolding(crate::specs::ProgramControl::branch_address))]
 fn branch_target(offset: u8, pc: u16) -> u16
     ensures { result ≡ branch_address offset pc }
 {
@@ -42,6 +44,13 @@ fn branch_target(offset: u8, pc: u16) -> u16
     } else {
         pc.wrapping_sub(2 * (256 - u16::from(offset)))
     }
+}
+
+/// Whether a word is 0.
+fn is_zero(word: u16) -> bool
+    ensures { result ≡ (word == 0) }
+{
+    word == 0
 }
 
 impl<A: Allocator> Hardware<A> {
@@ -56,16 +65,14 @@ impl<A: Allocator> Hardware<A> {
         }
     }
 
-    /// Takes twice the count from PC, where a loop has turns left.
+    /// Takes twice the count from PC, where a register that was counted down isn't 0.
     #[tactic(auto, unfolding(crate::specs::ProgramControl::counted_back))]
-    fn count_back(&mut self, left: u16, count: Count)
-        ensures { self.new ≡ counted_back left count self.old }
+    fn count_back(&mut self, register: Register, count: Count)
+        ensures { self.new ≡ counted_back register count self.old }
     {
-        if left != 0 {
-            let target = self
-                .register(Register::Pc)
-                .wrapping_sub(2 * u16::from(count.words()));
-            self.set_register(Register::Pc, target);
+        if !is_zero(self.register(register)) {
+            let back = 2 * u16::from(count.words());
+            self.set_register(Register::Pc, minus(self.register(Register::Pc), back));
         }
     }
 
@@ -129,7 +136,7 @@ impl<A: Allocator> Hardware<A> {
         ensures { execute_of (Op.Mark count) turn self.old ≡ (self.new, result) }
     {
         let pc = self.register(Register::Pc);
-        self.set_register(Register::Sp, pc.wrapping_add(2 * u16::from(count.words())));
+        self.set_register(Register::Sp, plus(pc, 2 * u16::from(count.words())));
         let frame = self.register(Register::R5);
         self.set_register(Register::Pc, frame);
         let word = self.pop(turn)?;
@@ -142,9 +149,8 @@ impl<A: Allocator> Hardware<A> {
     pub fn sob(&mut self, _turn: TurnNumber, register: Register, count: Count) -> Result<(), Trap>
         ensures { execute_of (Op.Sob register count) _turn self.old ≡ (self.new, result) }
     {
-        let left = self.register(register).wrapping_sub(1);
-        self.set_register(register, left);
-        self.count_back(left, count);
+        self.set_register(register, minus(self.register(register), 1));
+        self.count_back(register, count);
         Ok(())
     }
 }

@@ -1,0 +1,69 @@
+ghost use Rattle.std.specs.Prelude.{◌≡◌};
+ghost use Rattle.p11_alu.specs.Numbers.{val};
+ghost use Rattle.p11_cpu.specs.Words.{width_of, plus, minus, complement, sign_extended};
+
+use p11_alu::Size as Width;
+use p11_decode::Size;
+
+/// The size as the arithmetic names it.
+pub(crate) fn width(size: Size) -> Width
+    ensures { result ≡ width_of size }
+{
+    match size {
+        Size::Word => Width::Word,
+        Size::Byte => Width::Byte,
+    }
+}
+
+/// The sum of two words, without its carry.
+pub(crate) fn plus(word: u16, more: u16) -> u16
+    ensures { result ≡ plus word more }
+{
+    word.wrapping_add(more)
+}
+
+/// The difference of two words, without its borrow.
+#[tactic(auto, unfolding(crate::specs::Words::minus))]
+pub(crate) fn minus(word: u16, less: u16) -> u16
+    ensures { result ≡ minus word less }
+{
+    word.wrapping_sub(less)
+}
+
+/// What an instruction of this size sees of a register.
+pub(crate) fn cut(size: Size, word: u16) -> u16
+    ensures { result ≡ val (width_of size) word }
+{
+    match size {
+        Size::Word => word,
+        Size::Byte => word % 256,
+    }
+}
+
+/// A word or a byte with every bit turned.
+#[tactic(auto, unfolding(crate::specs::Words::complement))]
+pub(crate) fn complement(size: Size, number: u16) -> u16
+    ensures { result ≡ complement size number }
+{
+    match size {
+        Size::Word => !number,
+        Size::Byte => 255 - number % 256,
+    }
+}
+
+/// The word of the same signed value: a byte with its sign in bits 15 to 8.
+#[tactic(auto, unfolding(crate::specs::Words::sign_extended))]
+pub(crate) fn extended(size: Size, value: u16) -> u16
+    ensures { result ≡ sign_extended size value }
+{
+    match size {
+        Size::Word => value,
+        Size::Byte => {
+            if value % 256 < 128 {
+                value % 256
+            } else {
+                value % 256 + 0o177400
+            }
+        }
+    }
+}
