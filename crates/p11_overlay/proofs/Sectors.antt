@@ -6,7 +6,7 @@ use Rattle.std.proofs.lemmas.List.{same_lists, places, append_assoc, append-nil,
 use Rattle.std.proofs.lemmas.List.Elements.{All-from_get_or, All-head, All-nil, All-tail}
 use Rattle.std.proofs.lemmas.List.Folds.{list_any_at}
 use Rattle.std.proofs.lemmas.List.FromFn.{fill_by_all, get_or-map-range_with_len, get_or-range_with_len, length-map-range_with_len, length-range_with_len, map-range_with_len_more}
-use Rattle.p11_overlay.specs.declared.geometry.TheConstants.{ALL_SECTORS, IMAGE_BYTES}
+use Rattle.p11_overlay.specs.Geometry.{all_sectors, image_bytes}
 use Rattle.p11_overlay.specs.Drive.{IsWhole, filled, mounted, sector_within, sectors_of}
 use Rattle.p11_overlay.specs.Kept.{sector_numbers}
 
@@ -17,9 +17,9 @@ each_below n limit within =
     let at : get_or (range_with_len 0 limit) n 0 ≡ n = get_or-range_with_len 0 limit n 0 within ∙ omega arith in
     list_any_at (nat_eq n) (range_with_len 0 limit) n 0 len (eq-eqb n _ (sym at))
 
-pub each_is_prepared : (n : ℕ) → n < ALL_SECTORS → list_any (nat_eq n) sector_numbers ≡ true
+pub each_is_prepared : (n : ℕ) → n < all_sectors → list_any (nat_eq n) sector_numbers ≡ true
 unfolding sector_numbers
-each_is_prepared n within = each_below n ALL_SECTORS within
+each_is_prepared n within = each_below n all_sectors within
 
 -- one more list at the end
 pub concat-push : (xss : List (List ℕ)) (xs : List ℕ) → concat (xss ++ xs ∷ []) ≡ concat xss ++ xs
@@ -60,14 +60,14 @@ sectors_more image n made sector so_far new =
     rw (map-range_with_len_more (sector_within (filled image)) 0 n n (omega arith), so_far, new) refl
 
 -- the sectors made one after another, once there are all
-pub sectors_made : (image : List ℕ) (n : ℕ) (made : List (List ℕ)) → n ≡ ALL_SECTORS → made ≡ map (sector_within (filled image)) (range_with_len 0 n) → made ≡ sectors_of image
+pub sectors_made : (image : List ℕ) (n : ℕ) (made : List (List ℕ)) → n ≡ all_sectors → made ≡ map (sector_within (filled image)) (range_with_len 0 n) → made ≡ sectors_of image
 unfolding sectors_of
 sectors_made image n made all so_far = so_far ∙ ap (λ (k : ℕ). map (sector_within (filled image)) (range_with_len 0 k)) all
 
-pub length-filled : (image : List ℕ) → length image ≤ IMAGE_BYTES → length (filled image) ≡ IMAGE_BYTES
+pub length-filled : (image : List ℕ) → length image ≤ image_bytes → length (filled image) ≡ image_bytes
 unfolding filled
 length-filled image fits =
-    length-append image (replicate (IMAGE_BYTES - length image) 0) ∙ omega (arith, length-replicate {A = ℕ} (IMAGE_BYTES - length image) 0)
+    length-append image (replicate (image_bytes - length image) 0) ∙ omega (arith, length-replicate {A = ℕ} (image_bytes - length image) 0)
 
 -- a whole sector lies within enough bytes
 pub length-sector_within : (bytes : List ℕ) (n : ℕ) → n * 512 + 512 ≤ length bytes → length (sector_within bytes n) ≡ 512
@@ -91,25 +91,25 @@ concat-sector_within bytes (suc n) =
     let one : suc n ≡ n + 1 = omega arith in
     ap (λ (k : ℕ). concat (map (sector_within bytes) (range_with_len 0 k))) one ∙ ap concat more ∙ (concat-push (map (sector_within bytes) (range_with_len 0 n)) (sector_within bytes n) ∙ (ap (λ (front : List ℕ). front ++ sector_within bytes n) (concat-sector_within bytes n) ∙ (sym (take-add (n * 512) 512 bytes) ∙ ap (λ (k : ℕ). take k bytes) (sym next))))
 
-pub concat-sectors_of : (image : List ℕ) → length image ≤ IMAGE_BYTES → concat (sectors_of image) ≡ filled image
+pub concat-sectors_of : (image : List ℕ) → length image ≤ image_bytes → concat (sectors_of image) ≡ filled image
 unfolding sectors_of
 concat-sectors_of image fits =
-    concat-sector_within (filled image) ALL_SECTORS ∙ take_all (ALL_SECTORS * 512) (filled image) (omega (arith, length-filled image fits))
+    concat-sector_within (filled image) all_sectors ∙ take_all (all_sectors * 512) (filled image) (omega (arith, length-filled image fits))
 
-pub length-sectors_of : (image : List ℕ) → length (sectors_of image) ≡ ALL_SECTORS
+pub length-sectors_of : (image : List ℕ) → length (sectors_of image) ≡ all_sectors
 unfolding sectors_of
-length-sectors_of image = length-map-range_with_len (sector_within (filled image)) 0 ALL_SECTORS
+length-sectors_of image = length-map-range_with_len (sector_within (filled image)) 0 all_sectors
 
-pub All-sectors_of : (image : List ℕ) → length image ≤ IMAGE_BYTES → All (λ sector. length sector ≡ 512) (sectors_of image)
+pub All-sectors_of : (image : List ℕ) → length image ≤ image_bytes → All (λ sector. length sector ≡ 512) (sectors_of image)
 unfolding sectors_of
-All-sectors_of image fits = All-sector_within (filled image) ALL_SECTORS (omega (arith, length-filled image fits))
+All-sectors_of image fits = All-sector_within (filled image) all_sectors (omega (arith, length-filled image fits))
 
-pub whole_mounted : (image : List ℕ) (protected : Bool) → length image ≤ IMAGE_BYTES → IsWhole (mounted image protected)
+pub whole_mounted : (image : List ℕ) (protected : Bool) → length image ≤ image_bytes → IsWhole (mounted image protected)
 unfolding IsDistinct
 whole_mounted image protected fits = record {
   count = length-sectors_of image;
   bytes = All-sectors_of image fits;
-  numbers = All-nil (λ n. n < ALL_SECTORS);
+  numbers = All-nil (λ n. n < all_sectors);
   once = tt;
 }
 
@@ -128,10 +128,10 @@ part_of_concat k (xs ∷ xss) (suc n) each within =
     ap (take k) later ∙ part_of_concat k xss n (All-tail (λ (ys : List ℕ). length ys ≡ k) xs xss each) (omega arith)
 
 -- a whole pack's bytes leave no place for zeros
-pub filled_full : (image : List ℕ) → length image ≡ IMAGE_BYTES → filled image ≡ image
+pub filled_full : (image : List ℕ) → length image ≡ image_bytes → filled image ≡ image
 unfolding filled
 filled_full image full =
-    let none : IMAGE_BYTES - length image ≡ 0 = omega arith in
+    let none : image_bytes - length image ≡ 0 = omega arith in
     rw none (append-nil image)
 
 -- lists of 512 bytes, cut from the joined lists
@@ -141,8 +141,8 @@ sectors_again bytes sectors n joined count each =
     (λ i within. sym (ap (λ (all : List ℕ). sector_within all i) joined ∙ part_of_concat 512 sectors i each (omega arith))))
 
 -- the joined sectors make the same sectors again
-pub sectors_of-concat : (sectors : List (List ℕ)) → length sectors ≡ ALL_SECTORS → All (λ sector. length sector ≡ 512) sectors → sectors_of (concat sectors) ≡ sectors
+pub sectors_of-concat : (sectors : List (List ℕ)) → length sectors ≡ all_sectors → All (λ sector. length sector ≡ 512) sectors → sectors_of (concat sectors) ≡ sectors
 unfolding sectors_of
 sectors_of-concat sectors count each =
-    let full : length (concat sectors) ≡ IMAGE_BYTES = length-concat sectors 512 each ∙ omega arith in
-    sectors_again (filled (concat sectors)) sectors ALL_SECTORS (filled_full (concat sectors) full) count each
+    let full : length (concat sectors) ≡ image_bytes = length-concat sectors 512 each ∙ omega arith in
+    sectors_again (filled (concat sectors)) sectors all_sectors (filled_full (concat sectors) full) count each

@@ -1,9 +1,8 @@
 -- An RK05 drive with a pack on it: what the pack holds, and which sectors may be written.
--- A pack has 203 cylinders of two tracks, one on each surface, and 12 sectors of 256 words on a track:
--- 4,872 sectors of 512 bytes. Sector numbers count by sector, then by surface, then by cylinder.
+-- Sector numbers count by sector, then by surface, then by cylinder.
 use Rattle.std.specs.Prelude.{◌≡◌, ℕ, ◌-◌, ◌*◌, ◌<◌, Bool, IsTrue, nat_eq, List, [], ◌∷◌, ◌++◌, length, take, drop, map, replicate, slice_set, slice_index_or, All, if◌then◌else◌}
 use Rattle.std.specs.List.{list_any, range_with_len, concat, IsDistinct}
-use Rattle.p11_overlay.specs.declared.geometry.TheConstants.{ALL_SECTORS, IMAGE_BYTES, SECTOR_BYTES}
+use Rattle.p11_overlay.specs.Geometry.{all_sectors, image_bytes, sector_bytes}
 
 -- The bytes of each sector, the write-protect mark, and the numbers of the sectors that were written
 -- since the mount, each once, in the order of their first writes.
@@ -36,15 +35,15 @@ image_of contents = concat contents.sectors
 
 -- an image's bytes, and zeros behind them up to the whole pack
 unfoldable pub filled : List ℕ → List ℕ
-filled image = image ++ replicate (IMAGE_BYTES - length image) 0
+filled image = image ++ replicate (image_bytes - length image) 0
 
 -- the n-th 512 bytes
 abbrev pub sector_within : List ℕ → ℕ → List ℕ
-sector_within bytes n = take SECTOR_BYTES (drop (n * SECTOR_BYTES) bytes)
+sector_within bytes n = take sector_bytes (drop (n * sector_bytes) bytes)
 
 -- the sectors that an image makes
 unfoldable pub sectors_of : List ℕ → List (List ℕ)
-sectors_of image = map (sector_within (filled image)) (range_with_len 0 ALL_SECTORS)
+sectors_of image = map (sector_within (filled image)) (range_with_len 0 all_sectors)
 
 -- a drive on which an image was mounted
 abbrev pub mounted : List ℕ → Bool → Contents
@@ -61,7 +60,7 @@ written contents n bytes =
 
 -- What every drive has: 4,872 sectors of 512 bytes, and each changed sector listed once.
 pub record IsWhole (contents : Contents) : Type 0 where
-  pub count : length contents.sectors ≡ ALL_SECTORS
-  pub bytes : All (λ sector. length sector ≡ SECTOR_BYTES) contents.sectors
-  pub numbers : All (λ n. n < ALL_SECTORS) contents.changed
+  pub count : length contents.sectors ≡ all_sectors
+  pub bytes : All (λ sector. length sector ≡ sector_bytes) contents.sectors
+  pub numbers : All (λ n. n < all_sectors) contents.changed
   pub once : IsDistinct nat_eq contents.changed

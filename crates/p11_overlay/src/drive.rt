@@ -2,6 +2,7 @@
 ghost use Rattle.std.specs.Prelude.{◌≡◌, ℕ, ◌<◌, ◌≤◌, ◌-◌, ◌++◌, true, false, nat_eq, length, replicate, vec_len, vec_capacity, IfOk, OnOk, OnErr, IsOk};
 ghost use Rattle.std.specs.List.{list_any};
 ghost use Rattle.p11_overlay.specs.Drive.{changed_with, filled, sector_within};
+ghost use Rattle.p11_overlay.specs.Geometry.{all_sectors, image_bytes, sector_bytes};
 
 use crate::geometry::{ALL_SECTORS, IMAGE_BYTES, SECTOR_BYTES};
 use std::alloc::{AllocError, Allocator, Global};
@@ -13,7 +14,7 @@ use std::marker::Model;
 /// Sectors are numbered from 0: (cylinder * 2 + surface) * 12 + sector of the track. A sector is
 /// written in two steps, so that the second can't fail: `prepare` finds what memory the write may
 /// need, and `write` takes none.
-#[derive(Drop)]
+#[derive(Debug, Drop)]
 pub struct Drive<A: Allocator = Global> {
     sectors: Vec<[u8; SECTOR_BYTES], A>,
     is_protected: bool,
@@ -38,7 +39,7 @@ impl<A: Allocator + Copy> Drive<A> {
     /// A drive on which an image of at most `IMAGE_BYTES` bytes is mounted: its bytes from sector 0
     /// on, and zeros behind them. No sector is changed yet. An `Err` says that there was no memory.
     pub fn mount(alloc: A, image: &[u8], protected: bool) -> Result<Self, AllocError>
-        requires { length image.now ≤ IMAGE_BYTES }
+        requires { length image.now ≤ image_bytes }
         ensures contents { IfOk result (λ d. d.contents ≡ mounted image.now protected) }
         ensures bytes { IfOk result (λ d. image_of d.contents ≡ filled image.now) }
     {
@@ -60,9 +61,9 @@ impl<A: Allocator> Drive<A> {
 
     /// The 512 bytes of sector `n`.
     pub fn sector(&self, n: u16) -> &[u8]
-        requires { n < ALL_SECTORS }
+        requires { n < all_sectors }
         ensures bytes { result.now ≡ sector_of self.now.contents n }
-        ensures len { length result.now ≡ SECTOR_BYTES }
+        ensures len { length result.now ≡ sector_bytes }
         ensures whole { IsWhole self.now.contents }
     {
         self.sectors[usize::from(n)].as_slice()
@@ -74,7 +75,7 @@ impl<A: Allocator> Drive<A> {
     /// so it answers `Ok`.
     #[tactic(auto, using(crate::proofs::Sectors::each_is_prepared))]
     pub fn prepare(&mut self, n: u16) -> Result<(), AllocError>
-        requires { n < ALL_SECTORS }
+        requires { n < all_sectors }
         ensures contents { self.new.contents ≡ self.old.contents }
         ensures ok { OnOk result (IsPrepared self.new n) }
         ensures others { (m : ℕ) → IsPrepared self.old m → IsPrepared self.new m }
@@ -90,7 +91,7 @@ impl<A: Allocator> Drive<A> {
     /// Writes sector `n`, which is prepared. It is changed from its first write on, whatever was
     /// written.
     pub fn write(&mut self, n: u16, bytes: &[u8; SECTOR_BYTES])
-        requires within { n < ALL_SECTORS }
+        requires within { n < all_sectors }
         requires ready { IsPrepared self.old n }
         ensures contents { self.new.contents ≡ written self.old.contents n bytes.now }
         ensures prepared { self.new.prepared ≡ self.old.prepared }
@@ -103,7 +104,7 @@ impl<A: Allocator> Drive<A> {
     /// writes.
     pub fn changed(&self) -> &[u16]
         ensures numbers { result.now ≡ self.now.contents.changed }
-        ensures len { length result.now ≤ ALL_SECTORS }
+        ensures len { length result.now ≤ all_sectors }
         ensures whole { IsWhole self.now.contents }
     {
         self.changed.as_slice()
@@ -112,7 +113,7 @@ impl<A: Allocator> Drive<A> {
     /// A copy of all sectors, joined. An `Err` says that there was no memory.
     pub fn image(&self, alloc: A) -> Result<Vec<u8, A>, AllocError>
         ensures bytes { IfOk result (λ v. v.items ≡ image_of self.now.contents) }
-        ensures len { IfOk result (λ v. length v.items ≡ IMAGE_BYTES) }
+        ensures len { IfOk result (λ v. length v.items ≡ image_bytes) }
         // mounted again, the image makes the same sectors
         ensures again { IfOk result (λ v. sectors_of v.items ≡ self.now.contents.sectors) }
     {
@@ -142,8 +143,8 @@ impl<A: Allocator> Drive<A> {
 
 /// Sector `n` of an image, with zeros behind the image's last byte.
 fn sector_at(image: &[u8], n: u16) -> [u8; SECTOR_BYTES]
-    requires within { n < ALL_SECTORS }
-    requires fits { length image.now ≤ IMAGE_BYTES }
+    requires within { n < all_sectors }
+    requires fits { length image.now ≤ image_bytes }
     ensures { result ≡ sector_within (filled image.now) n }
 {
     let start = (usize::from(n) * SECTOR_BYTES).min(image.len());
@@ -154,8 +155,8 @@ fn sector_at(image: &[u8], n: u16) -> [u8; SECTOR_BYTES]
 
 /// A sector of bytes with zeros behind them.
 fn with_zeros(bytes: &[u8]) -> [u8; SECTOR_BYTES]
-    requires { length bytes.now ≤ SECTOR_BYTES }
-    ensures { result ≡ bytes.now ++ replicate (SECTOR_BYTES - length bytes.now) 0 }
+    requires { length bytes.now ≤ sector_bytes }
+    ensures { result ≡ bytes.now ++ replicate (sector_bytes - length bytes.now) 0 }
 {
     let mut sector = [0; SECTOR_BYTES];
     sector[..bytes.len()].copy_from_slice(bytes);

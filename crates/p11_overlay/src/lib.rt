@@ -4,11 +4,13 @@
 
 mod drive;
 mod geometry;
+mod laws;
 
 pub use drive::Drive;
 pub use geometry::{
     ALL_SECTORS, CYLINDERS, IMAGE_BYTES, SECTOR_BYTES, SECTORS_PER_TRACK, SURFACES,
 };
+pub use laws::geometry_of_a_pack;
 
 #[cfg(test)]
 mod tests;
