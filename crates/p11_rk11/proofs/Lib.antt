@@ -1,2 +1,7 @@
+pub mod ControlWord
+pub mod Init
+pub mod Kept
 pub mod Parts
+pub mod Places
+pub mod Turns
 pub mod Words

@@ -1,55 +1,55 @@
 -- A controller is seen by its parts: one drive read, and one drive changed beside the registers.
-use Rattle.std.proofs.Common.{◌≡◌, ℕ, ◌+◌, ◌<◌, ◌≤◌, Bool, true, false, List, [], ◌∷◌, length, map, set, get_or, Option, Some, None, is_some, refl, sym, ap, subst, ◌∙◌, arith}
-use Rattle.std.specs.Prelude.{◌&&◌, Result, Ok, Err, OnOk, nat_lt, if◌then◌else◌, slice_set, slice_index_or}
-use Rattle.std.proofs.lemmas.Bool.{both_ways, lt-ltb, le-ltb}
-use Rattle.std.proofs.lemmas.List.{get_or_default, get_or-set_same, length-set, map-set}
+use Rattle.std.proofs.Common.{◌≡◌, ℕ, ◌<◌, ◌≤◌, Bool, true, false, List, [], length, map, set, get_or, Option, Some, None, is_some, refl, sym, ap, subst, ◌∙◌, arith, inl, inr}
+use Rattle.std.specs.Prelude.{IsTrue, nat_eq, ◌&&◌, Result, Ok, Err, OnOk, nat_lt, if◌then◌else◌, slice_set, slice_index_or}
+use Rattle.std.specs.List.{list_any}
+use Rattle.std.proofs.lemmas.Bool.{both_ways, cases_eq, lt-ltb, le-ltb}
+use Rattle.std.proofs.lemmas.List.{get_or_default, get_or-set_same, get_or-set_other, length-set, map-set}
 use Rattle.std.proofs.Math.Seq.{map-set_same}
-use Rattle.std.proofs.Math.ListN.{get_or-map}
-use Rattle.p11_rk11.specs.declared.controller.TheConstants.{DRIVES}
+use Rattle.std.proofs.Math.ListN.{get_or-map, length-map}
 use Rattle.p11_rk11.specs.declared.registers.Registers.{Registers}
-use Rattle.p11_rk11.specs.Acts.{sector_moved_on, moved_at}
+use Rattle.p11_rk11.specs.Acts.{after_sector_on, disk_and_memory_with}
 use Rattle.p11_rk11.specs.Memory.{Words}
 use Rattle.p11_rk11.specs.Place.{is_on_disk, sector_number}
 use Rattle.p11_rk11.specs.Functions.{is_write}
 use Rattle.p11_rk11.proofs.Words.{accepted}
 use Rattle.p11_rk11.specs.Registers.{ended, failed, is_due}
-use Rattle.p11_rk11.specs.Starts.{started_on}
+use Rattle.p11_rk11.specs.Starts.{after_start_on}
 use Rattle.p11_rk11.specs.declared.errors.Failure.TheVariants.{NoDisk}
 use Rattle.p11_rk11.specs.Drives.{MountedDrive, MountedState}
-use Rattle.p11_rk11.specs.State.{Rk11State, heads_at, drive_of, selected, with_drive, with_part}
-use Rattle.p11_rk11.specs.View.{Rk11View, view_of, visible_drive, prepared_sectors, prepared_on, IsPreparedDrive, IsPreparedSector, IsPreparedFor, write_is_due, needs_memory, is_listed}
+use Rattle.p11_rk11.specs.State.{Rk11State, drive_count, heads_at, drive_of, selected, with_drive, with_registers_and_drive}
+use Rattle.p11_rk11.specs.View.{Rk11View, view_of, visible_drive, prepared_sectors, prepared_on, IsPreparedDrive, IsPreparedSector, IsPreparedFor, KeepsPrepared, write_is_due, needs_memory, is_listed}
 
 -- what is seen of a drive that is there
-pub drive_seen : (r : Registers) (drives : List (Option MountedState)) (n : ℕ) (b d : Option MountedState) → n < DRIVES → length drives ≡ DRIVES
+pub drive_seen : (r : Registers) (drives : List (Option MountedState)) (n : ℕ) (b d : Option MountedState) → n < drive_count → length drives ≡ drive_count
     → b ≡ get_or drives n d → drive_of (view_of r drives).state n ≡ visible_drive b
 unfolding drive_of
 drive_seen r drives n b d lt len is =
-    let test : nat_lt n DRIVES ≡ true = lt-ltb n DRIVES lt in
+    let test : nat_lt n drive_count ≡ true = lt-ltb n drive_count lt in
     let here : get_or drives n None ≡ b = get_or_default drives n None d (omega (arith, lt, len)) ∙ sym is in
     ap (λ (t : Bool). if t then get_or (map visible_drive drives) n None else None) test
     ∙ get_or-map visible_drive drives n None
     ∙ ap visible_drive here
 
 -- and of one that isn't
-pub no_drive_seen : (s : Rk11State) (n : ℕ) → DRIVES ≤ n → drive_of s n ≡ None
+pub no_drive_seen : (s : Rk11State) (n : ℕ) → drive_count ≤ n → drive_of s n ≡ None
 unfolding drive_of
-no_drive_seen s n le = ap (λ (t : Bool). if t then slice_index_or s.drives n None else None) (le-ltb n DRIVES le)
+no_drive_seen s n le = ap (λ (t : Bool). if t then slice_index_or s.drives n None else None) (le-ltb n drive_count le)
 
 -- a drive that was changed
-pub drive_changed : (r : Registers) (drives : List (Option MountedState)) (n : ℕ) (b : Option MountedState) → n < DRIVES
+pub drive_changed : (r : Registers) (drives : List (Option MountedState)) (n : ℕ) (b : Option MountedState) → n < drive_count
     → (view_of r (set drives n b)).state ≡ with_drive (view_of r drives).state n (visible_drive b)
 unfolding with_drive
 drive_changed r drives n b lt =
-    let test : nat_lt n DRIVES ≡ true = lt-ltb n DRIVES lt in
+    let test : nat_lt n drive_count ≡ true = lt-ltb n drive_count lt in
     let seen : List (Option MountedDrive) → Rk11State = λ list. record { registers = r; drives = list } in
     ap seen (map-set visible_drive drives n b)
     ∙ ap (λ (t : Bool). if t then seen (set (map visible_drive drives) n (visible_drive b)) else seen (map visible_drive drives)) (sym test)
 
 -- the registers and a drive that were changed together
 pub part_changed : (r r' : Registers) (drives : List (Option MountedState)) (n : ℕ) (b b' d : Option MountedState) (step : Registers → Option MountedDrive → Registers × Option MountedDrive)
-    → n < DRIVES → length drives ≡ DRIVES → b ≡ get_or drives n d → step r (visible_drive b) ≡ (r', visible_drive b')
-    → (view_of r' (set drives n b')).state ≡ with_part (view_of r drives).state n (step r (drive_of (view_of r drives).state n))
-unfolding with_part
+    → n < drive_count → length drives ≡ drive_count → b ≡ get_or drives n d → step r (visible_drive b) ≡ (r', visible_drive b')
+    → (view_of r' (set drives n b')).state ≡ with_registers_and_drive (view_of r drives).state n (step r (drive_of (view_of r drives).state n))
+unfolding with_registers_and_drive
 part_changed r r' drives n b b' d step lt len is done =
     let s : Rk11State = (view_of r drives).state in
     let after : step r (drive_of s n) ≡ (r', visible_drive b') = ap (λ d. step r d) (drive_seen r drives n b d lt len is) ∙ done in
@@ -57,11 +57,11 @@ part_changed r r' drives n b b' d step lt len is done =
     ∙ ap (λ (p : Registers × Option MountedDrive). record (with_drive s n p.1) { registers = p.0 }) (sym after)
 
 -- where there is no such drive, the registers alone
-pub no_part_changed : (s : Rk11State) (r : Registers) (n : ℕ) (drive : Option MountedDrive) → DRIVES ≤ n
-    → record s { registers = r } ≡ with_part s n (r, drive)
-unfolding with_part with_drive
+pub no_part_changed : (s : Rk11State) (r : Registers) (n : ℕ) (drive : Option MountedDrive) → drive_count ≤ n
+    → record s { registers = r } ≡ with_registers_and_drive s n (r, drive)
+unfolding with_registers_and_drive with_drive
 no_part_changed s r n drive le =
-    ap (λ (t : Bool). record (if t then record s { drives = slice_set s.drives n drive } else s) { registers = r }) (sym (le-ltb n DRIVES le))
+    ap (λ (t : Bool). record (if t then record s { drives = slice_set s.drives n drive } else s) { registers = r }) (sym (le-ltb n drive_count le))
 
 -- what is prepared stays
 pub prepared_same : (drives : List (Option MountedState)) (n : ℕ) (b b' d : Option MountedState) → n < length drives
@@ -78,7 +78,7 @@ prepared_seen r drives n b d lt is =
 
 -- a drive and the controller are prepared alike
 pub prepared_within : (v : Rk11View) (r : Registers) (drives : List (Option MountedState)) (n : ℕ) (b d : Option MountedState) (sector : ℕ)
-    → view_of r drives ≡ v → n < DRIVES → length drives ≡ DRIVES → b ≡ get_or drives n d
+    → view_of r drives ≡ v → n < drive_count → length drives ≡ drive_count → b ≡ get_or drives n d
     → IsPreparedDrive (drive_of v.state n) (prepared_on v n) sector → IsPreparedDrive (visible_drive b) (prepared_sectors b) sector
 prepared_within v r drives n b d sector view lt len is h =
     let P : Rk11View → Type 0 = λ v. IsPreparedDrive (drive_of v.state n) (prepared_on v n) sector in
@@ -87,7 +87,7 @@ prepared_within v r drives n b d sector view lt len is h =
     subst R (prepared_seen r drives n b d (omega (arith, lt, len)) is) (subst Q (drive_seen r drives n b d lt len is) (subst P (sym view) h))
 
 pub prepared_whole : (r : Registers) (drives : List (Option MountedState)) (n : ℕ) (b d : Option MountedState) (sector : ℕ)
-    → n < DRIVES → length drives ≡ DRIVES → b ≡ get_or drives n d
+    → n < drive_count → length drives ≡ drive_count → b ≡ get_or drives n d
     → IsPreparedDrive (visible_drive b) (prepared_sectors b) sector
     → IsPreparedDrive (drive_of (view_of r drives).state n) (prepared_on (view_of r drives) n) sector
 prepared_whole r drives n b d sector lt len is h =
@@ -98,57 +98,57 @@ prepared_whole r drives n b d sector lt len is h =
 -- a moved sector changed the registers, a drive and memory
 pub sector_changed : (r r' : Registers) (drives : List (Option MountedState)) (n : ℕ) (b b' d : Option MountedState) (m m' : Words)
     (step : Registers → Option MountedDrive → Words → Registers × Option MountedDrive × Words)
-    → n < DRIVES → length drives ≡ DRIVES → b ≡ get_or drives n d → step r (visible_drive b) m ≡ (r', visible_drive b', m')
-    → moved_at (view_of r drives).state n (step r (drive_of (view_of r drives).state n) m) ≡ ((view_of r' (set drives n b')).state, m')
+    → n < drive_count → length drives ≡ drive_count → b ≡ get_or drives n d → step r (visible_drive b) m ≡ (r', visible_drive b', m')
+    → disk_and_memory_with (view_of r drives).state n (step r (drive_of (view_of r drives).state n) m) ≡ ((view_of r' (set drives n b')).state, m')
 sector_changed r r' drives n b b' d m m' step lt len is done =
     let s : Rk11State = (view_of r drives).state in
     let after : step r (drive_of s n) m ≡ (r', visible_drive b', m') = ap (λ d. step r d m) (drive_seen r drives n b d lt len is) ∙ done in
-    let put : (view_of r' (set drives n b')).state ≡ with_part s n (r', visible_drive b') =
+    let put : (view_of r' (set drives n b')).state ≡ with_registers_and_drive s n (r', visible_drive b') =
     part_changed r r' drives n b b' d (λ _ _. (r', visible_drive b')) lt len is refl in
-    ap (λ moved. moved_at s n moved) after ∙ ap (λ (t : Rk11State). (t, m')) (sym put)
+    ap (λ moved. disk_and_memory_with s n moved) after ∙ ap (λ (t : Rk11State). (t, m')) (sym put)
 
 -- where there is no such drive, the registers alone
-pub no_sector_changed : (s : Rk11State) (r : Registers) (n turn : ℕ) (m : Words) → DRIVES ≤ n → r ≡ ended s.registers
-    → moved_at s n (sector_moved_on turn s.registers (drive_of s n) m) ≡ (record s { registers = r }, m)
+pub no_sector_changed : (s : Rk11State) (r : Registers) (n turn : ℕ) (m : Words) → drive_count ≤ n → r ≡ ended s.registers
+    → disk_and_memory_with s n (after_sector_on turn s.registers (drive_of s n) m) ≡ (record s { registers = r }, m)
 no_sector_changed s r n turn m le is =
-    ap (λ drive. moved_at s n (sector_moved_on turn s.registers drive m)) (no_drive_seen s n le)
+    ap (λ drive. disk_and_memory_with s n (after_sector_on turn s.registers drive m)) (no_drive_seen s n le)
     ∙ ap (λ (t : Rk11State). (t, m)) (sym (no_part_changed s (ended s.registers) n None le) ∙ ap (λ (q : Registers). record s { registers = q }) (sym is))
 
 -- The same for the drive that RKDA selects, whose number n the code has read.
 
 pub selected_changed : (r r' : Registers) (drives : List (Option MountedState)) (n : ℕ) (b b' d : Option MountedState) (step : Registers → Option MountedDrive → Registers × Option MountedDrive)
-    → n ≡ r.disk_address.drive → n < DRIVES → length drives ≡ DRIVES → b ≡ get_or drives n d → step r (visible_drive b) ≡ (r', visible_drive b')
-    → (view_of r' (set drives n b')).state ≡ with_part (view_of r drives).state r.disk_address.drive (step r (selected (view_of r drives).state))
+    → n ≡ r.disk_address.drive → n < drive_count → length drives ≡ drive_count → b ≡ get_or drives n d → step r (visible_drive b) ≡ (r', visible_drive b')
+    → (view_of r' (set drives n b')).state ≡ with_registers_and_drive (view_of r drives).state r.disk_address.drive (step r (selected (view_of r drives).state))
 selected_changed r r' drives n b b' d step same lt len is done =
     let s : Rk11State = (view_of r drives).state in
-    part_changed r r' drives n b b' d step lt len is done ∙ ap (λ (k : ℕ). with_part s k (step r (drive_of s k))) same
+    part_changed r r' drives n b b' d step lt len is done ∙ ap (λ (k : ℕ). with_registers_and_drive s k (step r (drive_of s k))) same
 
-pub none_selected : (s : Rk11State) (n : ℕ) → n ≡ s.registers.disk_address.drive → DRIVES ≤ n → selected s ≡ None
+pub none_selected : (s : Rk11State) (n : ℕ) → n ≡ s.registers.disk_address.drive → drive_count ≤ n → selected s ≡ None
 none_selected s n same le = ap (λ (k : ℕ). drive_of s k) (sym same) ∙ no_drive_seen s n le
 
-pub none_started : (s : Rk11State) (r : Registers) (n turn : ℕ) → n ≡ s.registers.disk_address.drive → DRIVES ≤ n → r ≡ failed NoDisk s.registers
-    → record s { registers = r } ≡ with_part s s.registers.disk_address.drive (started_on turn s.registers (selected s))
+pub none_started : (s : Rk11State) (r : Registers) (n turn : ℕ) → n ≡ s.registers.disk_address.drive → drive_count ≤ n → r ≡ failed NoDisk s.registers
+    → record s { registers = r } ≡ with_registers_and_drive s s.registers.disk_address.drive (after_start_on turn s.registers (selected s))
 none_started s r n turn same le is =
     no_part_changed s r n None le
-    ∙ ap (λ (k : ℕ). with_part s k (r, None)) same
-    ∙ ap (λ (q : Registers). with_part s s.registers.disk_address.drive (q, None)) is
-    ∙ ap (λ drive. with_part s s.registers.disk_address.drive (started_on turn s.registers drive)) (sym (none_selected s n same le))
+    ∙ ap (λ (k : ℕ). with_registers_and_drive s k (r, None)) same
+    ∙ ap (λ (q : Registers). with_registers_and_drive s s.registers.disk_address.drive (q, None)) is
+    ∙ ap (λ drive. with_registers_and_drive s s.registers.disk_address.drive (after_start_on turn s.registers drive)) (sym (none_selected s n same le))
 
 pub selected_moved : (r r' : Registers) (drives : List (Option MountedState)) (n : ℕ) (b b' d : Option MountedState) (m m' : Words)
     (step : Registers → Option MountedDrive → Words → Registers × Option MountedDrive × Words)
-    → n ≡ r.disk_address.drive → n < DRIVES → length drives ≡ DRIVES → b ≡ get_or drives n d → step r (visible_drive b) m ≡ (r', visible_drive b', m')
-    → moved_at (view_of r drives).state r.disk_address.drive (step r (selected (view_of r drives).state) m) ≡ ((view_of r' (set drives n b')).state, m')
+    → n ≡ r.disk_address.drive → n < drive_count → length drives ≡ drive_count → b ≡ get_or drives n d → step r (visible_drive b) m ≡ (r', visible_drive b', m')
+    → disk_and_memory_with (view_of r drives).state r.disk_address.drive (step r (selected (view_of r drives).state) m) ≡ ((view_of r' (set drives n b')).state, m')
 selected_moved r r' drives n b b' d m m' step same lt len is done =
     let s : Rk11State = (view_of r drives).state in
-    ap (λ (k : ℕ). moved_at s k (step r (drive_of s k) m)) (sym same) ∙ sector_changed r r' drives n b b' d m m' step lt len is done
+    ap (λ (k : ℕ). disk_and_memory_with s k (step r (drive_of s k) m)) (sym same) ∙ sector_changed r r' drives n b b' d m m' step lt len is done
 
-pub none_moved : (s : Rk11State) (r : Registers) (n turn : ℕ) (m : Words) → n ≡ s.registers.disk_address.drive → DRIVES ≤ n → r ≡ ended s.registers
-    → moved_at s s.registers.disk_address.drive (sector_moved_on turn s.registers (selected s) m) ≡ (record s { registers = r }, m)
+pub none_moved : (s : Rk11State) (r : Registers) (n turn : ℕ) (m : Words) → n ≡ s.registers.disk_address.drive → drive_count ≤ n → r ≡ ended s.registers
+    → disk_and_memory_with s s.registers.disk_address.drive (after_sector_on turn s.registers (selected s) m) ≡ (record s { registers = r }, m)
 none_moved s r n turn m same le is =
-    ap (λ (k : ℕ). moved_at s k (sector_moved_on turn s.registers (drive_of s k) m)) (sym same) ∙ no_sector_changed s r n turn m le is
+    ap (λ (k : ℕ). disk_and_memory_with s k (after_sector_on turn s.registers (drive_of s k) m)) (sym same) ∙ no_sector_changed s r n turn m le is
 
 pub selected_prepared : (v : Rk11View) (r : Registers) (drives : List (Option MountedState)) (n : ℕ) (b d : Option MountedState)
-    → view_of r drives ≡ v → n ≡ r.disk_address.drive → n < DRIVES → length drives ≡ DRIVES → b ≡ get_or drives n d
+    → view_of r drives ≡ v → n ≡ r.disk_address.drive → n < drive_count → length drives ≡ drive_count → b ≡ get_or drives n d
     → IsPreparedSector v → IsPreparedDrive (visible_drive b) (prepared_sectors b) (sector_number r.disk_address)
 selected_prepared v r drives n b d view same lt len is h =
     let w : Rk11View = view_of r drives in
@@ -157,14 +157,14 @@ selected_prepared v r drives n b d view same lt len is h =
     prepared_within w r drives n b d (sector_number r.disk_address) refl lt len is (subst Q (sym same) (subst P (sym view) h))
 
 pub prepared_selected : (r : Registers) (drives : List (Option MountedState)) (n : ℕ) (b d : Option MountedState)
-    → n ≡ r.disk_address.drive → n < DRIVES → length drives ≡ DRIVES → b ≡ get_or drives n d
+    → n ≡ r.disk_address.drive → n < drive_count → length drives ≡ drive_count → b ≡ get_or drives n d
     → IsPreparedDrive (visible_drive b) (prepared_sectors b) (sector_number r.disk_address) → IsPreparedSector (view_of r drives)
 prepared_selected r drives n b d same lt len is h =
     let w : Rk11View = view_of r drives in
     let Q : ℕ → Type 0 = λ k. IsPreparedDrive (drive_of w.state k) (prepared_on w k) (sector_number r.disk_address) in
     subst Q same (prepared_whole r drives n b d (sector_number r.disk_address) lt len is h)
 
-pub selected_seen : (r : Registers) (drives : List (Option MountedState)) (n : ℕ) (b d : Option MountedState) → n ≡ r.disk_address.drive → n < DRIVES → length drives ≡ DRIVES
+pub selected_seen : (r : Registers) (drives : List (Option MountedState)) (n : ℕ) (b d : Option MountedState) → n ≡ r.disk_address.drive → n < drive_count → length drives ≡ drive_count
     → b ≡ get_or drives n d → selected (view_of r drives).state ≡ visible_drive b
 selected_seen r drives n b d same lt len is =
     ap (λ (k : ℕ). drive_of (view_of r drives).state k) (sym same) ∙ drive_seen r drives n b d lt len is
@@ -181,12 +181,12 @@ pub prepared_changed : (drives : List (Option MountedState)) (n : ℕ) (b : Opti
 prepared_changed drives n b = map-set prepared_sectors drives n b
 
 pub prepared_after : (r : Registers) (drives : List (Option MountedState)) (n : ℕ) (b : Option MountedState)
-    → n ≡ r.disk_address.drive → n < DRIVES → length drives ≡ DRIVES
+    → n ≡ r.disk_address.drive → n < drive_count → length drives ≡ drive_count
     → IsPreparedDrive (visible_drive b) (prepared_sectors b) (sector_number r.disk_address) → IsPreparedSector (view_of r (set drives n b))
 prepared_after r drives n b same lt len h =
     prepared_selected r (set drives n b) n b None same lt (length-set drives n b ∙ len) (sym (get_or-set_same drives n b None (omega (arith, lt, len)))) h
 
-pub none_prepared : (v : Rk11View) (n : ℕ) → n ≡ v.state.registers.disk_address.drive → DRIVES ≤ n → IsPreparedSector v
+pub none_prepared : (v : Rk11View) (n : ℕ) → n ≡ v.state.registers.disk_address.drive → drive_count ≤ n → IsPreparedSector v
 none_prepared v n same le =
     let P : Option MountedDrive → Type 0 = λ d. IsPreparedDrive d (prepared_on v v.state.registers.disk_address.drive) (sector_number v.state.registers.disk_address) in
     subst P (sym (none_selected v.state n same le)) tt
@@ -210,7 +210,7 @@ last_of_three false b c h = cc h
 
 -- a drive that was changed by itself
 pub drive_mapped : (r : Registers) (drives : List (Option MountedState)) (n : ℕ) (b b' d : Option MountedState) (f : Option MountedDrive → Option MountedDrive)
-    → n < DRIVES → length drives ≡ DRIVES → b ≡ get_or drives n d → visible_drive b' ≡ f (visible_drive b)
+    → n < drive_count → length drives ≡ drive_count → b ≡ get_or drives n d → visible_drive b' ≡ f (visible_drive b)
     → (view_of r (set drives n b')).state ≡ with_drive (view_of r drives).state n (f (drive_of (view_of r drives).state n))
 drive_mapped r drives n b b' d f lt len is done =
     let s : Rk11State = (view_of r drives).state in
@@ -243,3 +243,25 @@ not_due_prepared turn v none due = absurd (both_ways _ none due)
 pub due_prepared : (turn : ℕ) (v : Rk11View) → IsPreparedFor turn v → write_is_due turn v.state ≡ true → IsPreparedSector v
 unfolding IsPreparedFor
 due_prepared turn v prepared due = prepared due
+
+-- what was prepared on any drive still is, where it is on the one that changed
+pub others_prepared : (r : Registers) (drives : List (Option MountedState)) (n : ℕ) (b b' d : Option MountedState) → n < drive_count → length drives ≡ drive_count → b ≡ get_or drives n d
+    → ((m : ℕ) → IsTrue (list_any (nat_eq m) (prepared_sectors b)) → IsTrue (list_any (nat_eq m) (prepared_sectors b')))
+    → KeepsPrepared (view_of r drives) (view_of r (set drives n b'))
+unfolding prepared_on
+others_prepared r drives n b b' d lt len is keeps k m h =
+    let P : List ℕ → Type 0 = λ l. IsTrue (list_any (nat_eq m) l) in
+    let Q : List (List ℕ) → Type 0 = λ l. IsTrue (list_any (nat_eq m) (get_or l k [])) in
+    let sectors : List (List ℕ) = map prepared_sectors drives in
+    subst Q (sym (prepared_changed drives n b'))
+    (elim (cases_eq k n) [
+      | inl e ↦
+          let here : get_or sectors k [] ≡ prepared_sectors b =
+          ap (λ (i : ℕ). get_or sectors i []) e ∙ get_or-map prepared_sectors drives n None
+          ∙ ap prepared_sectors (get_or_default drives n None d (omega (arith, lt, len)) ∙ sym is) in
+          let there : get_or (set sectors n (prepared_sectors b')) k [] ≡ prepared_sectors b' =
+          ap (λ (i : ℕ). get_or (set sectors n (prepared_sectors b')) i []) e
+          ∙ get_or-set_same sectors n (prepared_sectors b') [] (omega (arith, lt, len, length-map drives prepared_sectors)) in
+          subst P (sym there) (keeps m (subst P here h))
+      | inr other ↦ subst P (sym (get_or-set_other sectors n k (prepared_sectors b') [] other)) h
+    ])

@@ -1,5 +1,5 @@
 -- Words of a sector and of memory, a step at a time.
-use Rattle.std.proofs.Common.{◌≡◌, ℕ, zero, suc, ◌+◌, ◌-◌, ◌*◌, ◌/◌, ◌<◌, ◌≤◌, Bool, true, false, List, [], ◌∷◌, ◌++◌, length, map, take, drop, set, replicate, get_or, refl, sym, ap, ◌∙◌, arith, add-one, inl, inr}
+use Rattle.std.proofs.Common.{◌≡◌, ℕ, zero, suc, ◌+◌, ◌-◌, ◌*◌, ◌/◌, ◌<◌, Bool, true, false, List, [], ◌∷◌, ◌++◌, length, map, take, drop, set, replicate, refl, sym, ap, ◌∙◌, arith, add-one, inl, inr}
 use Rattle.std.specs.Prelude.{◌&&◌, not, slice_index}
 use Rattle.std.specs.List.{range_with_len}
 use Rattle.std.proofs.lemmas.Bool.{cases_lt}
@@ -24,7 +24,7 @@ unfolding all_held
 held_more address words n a at before this =
     rw (add-one n) (ap (λ b. b && has_word words (address n)) before ∙ ap (λ x. has_word words x) (sym at) ∙ this)
 
-both_hold : (a b : Bool) → a && b ≡ true → (a ≡ true) × (b ≡ true)
+pub both_hold : (a b : Bool) → a && b ≡ true → (a ≡ true) × (b ≡ true)
 both_hold true b h = (refl, h)
 both_hold false b h = cc h
 

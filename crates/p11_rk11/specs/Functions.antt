@@ -23,32 +23,28 @@ function_number WriteLock = 7
 -- functions 1 to 5 have their sector and cylinder judged at GO
 unfoldable pub uses_place : Function → Bool
 uses_place ControlReset = false
-uses_place Write = true
-uses_place Read = true
-uses_place WriteCheck = true
-uses_place Seek = true
-uses_place ReadCheck = true
 uses_place DriveReset = false
 uses_place WriteLock = false
+uses_place _ = true
 
 -- functions 1 to 3 move words of memory; a read check moves sectors alone
 unfoldable pub uses_memory : Function → Bool
-uses_memory ControlReset = false
 uses_memory Write = true
 uses_memory Read = true
 uses_memory WriteCheck = true
-uses_memory Seek = false
-uses_memory ReadCheck = false
-uses_memory DriveReset = false
-uses_memory WriteLock = false
+uses_memory _ = false
 
 -- whether a function is the write
 unfoldable pub is_write : Function → Bool
-is_write ControlReset = false
 is_write Write = true
-is_write Read = false
-is_write WriteCheck = false
-is_write Seek = false
-is_write ReadCheck = false
-is_write DriveReset = false
-is_write WriteLock = false
+is_write _ = false
+
+-- whether a function is the read
+unfoldable pub is_read : Function → Bool
+is_read Read = true
+is_read _ = false
+
+-- whether a function is the control reset
+unfoldable pub is_reset : Function → Bool
+is_reset ControlReset = true
+is_reset _ = false

@@ -1,8 +1,10 @@
 pub mod Acts
 pub mod Address
 pub mod Drives
+pub mod DueTurns
 pub mod Errors
 pub mod Functions
+pub mod Laws
 pub mod Memory
 pub mod Place
 pub mod Registers

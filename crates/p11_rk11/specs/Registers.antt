@@ -1,5 +1,5 @@
 -- The controller's registers: what each shows, and what each event makes of them.
-use Rattle.std.specs.Prelude.{ℕ, ◌+◌, ◌-◌, ◌*◌, ◌/◌, ◌%◌, min, Bool, true, false, not, ◌==◌, ◌&&◌, ◌||◌, nat_eq, nat_le, Option, Some, None, is_some, if◌then◌else◌}
+use Rattle.std.specs.Prelude.{ℕ, ◌+◌, ◌-◌, ◌*◌, ◌/◌, ◌%◌, min, Bool, true, false, not, ◌==◌, ◌&&◌, ◌||◌, nat_le, Option, Some, None, is_some, if◌then◌else◌}
 use Rattle.p11_rk11.specs.declared.registers.Registers.{Registers}
 use Rattle.p11_rk11.specs.declared.register.Register.{Register}
 use Rattle.p11_rk11.specs.declared.register.Register.TheVariants as register
@@ -40,7 +40,7 @@ cleared_registers =
       inhibit_increment = false;
       search_complete = false;
       word_count = 0;
-      bus_address = record { extension = 0; low = 0 };
+      bus_address = 0;
       disk_address = place_of_word 0;
       finished_seek = 0;
       transfer = None;
@@ -52,7 +52,7 @@ is_ready r = not (is_some r.transfer)
 
 -- RKCS 7:0: 3:1 function, 5:4 address 17:16, 6 enable, 7 ready. GO reads as 0.
 unfoldable pub low_bits : Registers → ℕ
-low_bits r = function_number r.function * 0o2 + r.bus_address.extension * 0o20 + flag r.enable 0o100 + flag (is_ready r) 0o200
+low_bits r = function_number r.function * 0o2 + r.bus_address / 0o200000 * 0o20 + flag r.enable 0o100 + flag (is_ready r) 0o200
 
 -- RKCS 13:8: 8 stop on soft error, 10 format, 11 inhibit increment, 13 search complete
 unfoldable pub high_bits : Registers → ℕ
@@ -64,18 +64,18 @@ control_word r =
     low_bits r + high_bits r + flag (not (error_word r.errors / 2 == 0)) 0o40000 + flag (not (error_word r.errors == 0)) 0o100000
 
 -- A write of RKCS takes enable at any time. While enable is 0 no request stands.
-unfoldable pub taken_enable : ℕ → Registers → Registers
-taken_enable word r = record r { enable = bit_of word 0o100; request = bit_of word 0o100 && r.request }
+unfoldable pub with_enable : ℕ → Registers → Registers
+with_enable word r = record r { enable = bit_of word 0o100; request = bit_of word 0o100 && r.request }
 
 unfoldable pub enable_rises : ℕ → Registers → Bool
 enable_rises word r = bit_of word 0o100 && not r.enable
 
 -- While ready it takes bits 5:1, 8, 10 and 11 as well.
-unfoldable pub taken_control : ℕ → Registers → Registers
-taken_control word r =
+unfoldable pub with_control : ℕ → Registers → Registers
+with_control word r =
     record r {
       function = function_of (word / 2 % 8);
-      bus_address = record { extension = word / 0o20 % 4; low = r.bus_address.low };
+      bus_address = word / 0o20 % 4 * 0o200000 + r.bus_address % 0o200000;
       stop_on_soft_error = bit_of word 0o400;
       format = bit_of word 0o2000;
       inhibit_increment = bit_of word 0o4000;
@@ -103,8 +103,8 @@ words_moved r = min 256 (words_left r)
 
 -- After a sector moved, RKWC grows by its words; the memory address does so for the functions that use
 -- memory, unless increment is inhibited; RKDA goes to the next sector.
-unfoldable pub counted : Registers → Registers
-counted r =
+unfoldable pub counters_advanced : Registers → Registers
+counters_advanced r =
     record r {
       word_count = (r.word_count + words_moved r) % 0o200000;
       bus_address = if uses_memory r.function && not r.inhibit_increment then address_after r.bus_address (words_moved r) else r.bus_address;
@@ -112,22 +112,22 @@ counted r =
     }
 
 -- RKER 0 is set where the words of a write check differed
-unfoldable pub noted : Bool → Registers → Registers
-noted differs r = if differs then record r { errors = record r.errors { write_check = true } } else r
+unfoldable pub with_difference : Bool → Registers → Registers
+with_difference differs r = if differs then record r { errors = record r.errors { write_check = true } } else r
 
 -- What follows a moved sector: the function ends where no words were left behind it, else where words
 -- differed and RKCS 8 stops on that, else with overrun where RKDA is past the last cylinder; else the
 -- next sector is due 32 turns later.
-unfoldable pub continued : ℕ → Bool → Bool → Registers → Registers
-continued turn was_last differs r =
+unfoldable pub next_sector_or_end : ℕ → Bool → Bool → Registers → Registers
+next_sector_or_end turn was_last differs r =
     if was_last then ended r
     else (if differs && r.stop_on_soft_error then ended r
     else (if r.disk_address.cylinder == 203 then failed Overrun r
     else record r { transfer = Some (turn + 32) }))
 
 -- the registers after a sector moved
-unfoldable pub registers_moved : ℕ → Bool → Registers → Registers
-registers_moved turn differs r = continued turn (nat_le (words_left r) 256) differs (counted (noted differs r))
+unfoldable pub registers_after_sector : ℕ → Bool → Registers → Registers
+registers_after_sector turn differs r = next_sector_or_end turn (nat_le (words_left r) 256) differs (counters_advanced (with_difference differs r))
 
 -- whether an act with this due turn, if it has one, is due now
 unfoldable pub is_due : ℕ → Option ℕ → Bool

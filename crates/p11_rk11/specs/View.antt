@@ -1,5 +1,5 @@
 -- The whole that contracts see of a controller.
-use Rattle.std.specs.Prelude.{◌≡◌, ℕ, Bool, true, false, IsTrue, ◌==◌, ◌&&◌, not, nat_eq, List, [], Option, Some, None, map, option_map, slice_index_or}
+use Rattle.std.specs.Prelude.{◌≡◌, ℕ, Bool, true, IsTrue, ◌&&◌, not, nat_eq, List, [], Option, Some, None, map, slice_index_or}
 use Rattle.std.specs.List.{list_any}
 use Rattle.p11_overlay.specs.Drive.{Contents, DriveState}
 use Rattle.p11_rk11.specs.declared.registers.Registers.{Registers}
@@ -29,6 +29,11 @@ prepared_on v n = slice_index_or v.prepared n []
 abbrev pub view_of : Registers → List (Option MountedState) → Rk11View
 view_of registers drives =
     record { state = record { registers = registers; drives = map visible_drive drives }; prepared = map prepared_sectors drives }
+
+-- what was prepared on any drive still is
+abbrev pub KeepsPrepared : Rk11View → Rk11View → Type 0
+KeepsPrepared before after =
+    (n m : ℕ) → IsTrue (list_any (nat_eq m) (prepared_on before n)) → IsTrue (list_any (nat_eq m) (prepared_on after n))
 
 -- what a drive holds that is lent out
 abbrev pub contents_lent : Option DriveState → Option Contents

@@ -1,48 +1,68 @@
-ghost use Rattle.std.specs.Prelude.{◌≡◌, ◌<◌, ◌≤◌, ◌^◌, ◌*◌};
-ghost use Rattle.p11_rk11.specs.Address.{address_number, address_after, word_address};
+ghost use Rattle.std.specs.Prelude.{◌≡◌, ◌<◌, ◌≤◌, ◌+◌, ◌*◌, ◌/◌, ◌%◌};
+ghost use Rattle.p11_rk11.specs.Address.{address_after, word_address};
 
-/// A memory address of 18 bits: RKCS 5:4 and RKBA.
+use std::marker::Model;
+
+/// A memory address of 18 bits, 0 to 777776: RKCS 5:4 and RKBA. It is even.
 #[derive(Clone, Copy, Debug, PartialEq, Eq)]
-pub struct BusAddress {
-    /// Bits 17:16.
-    pub extension: u8,
-    /// Bits 15:0.
-    pub low: u16,
+pub struct BusAddress(u32);
+
+impl Model for BusAddress {
+    ghost use Rattle.std.specs.Prelude.{◌≡◌, ℕ, ◌<◌, ◌%◌};
+
+    ghost Value = { ℕ };
+
+    ghost view = { λ a. a.0 };
+
+    ghost invariant = { λ a. (a.0 < 0o1000000) × (a.0 % 2 ≡ 0) };
+
+    ghost inverse = { λ n. record { 0 = n } };
 }
 
 impl BusAddress {
-    pub(crate) const ZERO: BusAddress = BusAddress {
-        extension: 0,
-        low: 0,
-    };
-
-    /// Bits 17:16 at their places in RKCS, 5:4.
-    pub(crate) fn extension_bits(self) -> u16
-        ensures value { result ≡ self.extension * 0o20 }
-        ensures bound { result ≤ 0o7760 }
+    pub(crate) fn zero() -> BusAddress
+        ensures { result ≡ 0 }
     {
-        u16::from(self.extension) * 0o20
+        BusAddress(0)
     }
 
-    #[tactic(auto, unfolding(crate::specs::Address::address_number))]
-    pub(crate) fn number(self) -> u32
-        ensures value { result ≡ address_number self }
-        ensures bound { result < 2 ^ 24 }
+    /// Bits 17:16, 0 to 3.
+    pub(crate) fn extension(self) -> u16
+        ensures value { result ≡ self / 0o200000 }
+        ensures bound { result < 4 }
     {
-        u32::from(self.extension) * 0x1_0000 + u32::from(self.low)
+        (self.0 / 0o200000) as u16
     }
 
-    /// The address so many words on; past 777777 comes 0.
+    /// Bits 15:0.
+    pub(crate) fn low(self) -> u16
+        ensures { result ≡ self % 0o200000 }
+    {
+        (self.0 % 0o200000) as u16
+    }
+
+    /// The same address with other bits 17:16.
+    pub(crate) fn with_extension(self, extension: u16) -> BusAddress
+        requires { extension < 4 }
+        ensures { result ≡ extension * 0o200000 + self % 0o200000 }
+    {
+        BusAddress(u32::from(extension) * 0o200000 + self.0 % 0o200000)
+    }
+
+    /// The same address with other bits 15:1.
+    pub(crate) fn with_low(self, word: u16) -> BusAddress
+        ensures { result ≡ self / 0o200000 * 0o200000 + word / 2 * 2 }
+    {
+        BusAddress(self.0 / 0o200000 * 0o200000 + u32::from(word) / 2 * 2)
+    }
+
+    /// The address so many words on; past 777776 comes 0.
     #[tactic(auto, unfolding(crate::specs::Address::address_after))]
     pub(crate) fn after(self, words: u32) -> BusAddress
         requires { words ≤ 256 }
         ensures { result ≡ address_after self words }
     {
-        let number = self.number() + 2 * words & 0o777777;
-        BusAddress {
-            extension: (number >> 16) as u8,
-            low: (number & 0xffff) as u16,
-        }
+        BusAddress((self.0 + 2 * words) % 0o1000000)
     }
 
     /// The address of word `k` of a sector: the next word's each time, or always the first word's.
@@ -51,10 +71,6 @@ impl BusAddress {
         requires { k ≤ 256 }
         ensures { result ≡ word_address self stays k }
     {
-        if stays {
-            self.number() & 0o777777
-        } else {
-            self.number() + 2 * k & 0o777777
-        }
+        if stays { self.0 } else { self.after(k).0 }
     }
 }

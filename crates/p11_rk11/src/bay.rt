@@ -1,10 +1,11 @@
 //! A drive, empty or with a pack mounted.
-ghost use Rattle.std.specs.Prelude.{◌≡◌, ℕ, ◌<◌, ◌≤◌, ◌^◌, Some, None, is_some, true, OnOk, OnErr, IsOk, option_copied};
-ghost use Rattle.p11_rk11.specs.Acts.{seek_done, sector_moved_on};
+ghost use Rattle.std.specs.Prelude.{◌≡◌, ℕ, ◌+◌, ◌<◌, ◌≤◌, ◌^◌, Some, None, is_some, true, OnOk, OnErr, IsOk, IsTrue, nat_eq, option_copied};
+ghost use Rattle.std.specs.List.{list_any};
+ghost use Rattle.p11_rk11.specs.Acts.{after_seek_on, after_sector_on};
 ghost use Rattle.p11_rk11.specs.Functions.{is_write};
 ghost use Rattle.p11_rk11.specs.Place.{is_on_disk, sector_number};
-ghost use Rattle.p11_rk11.specs.Starts.{started_on};
-ghost use Rattle.p11_rk11.specs.State.{contents_of, heads_at, seek_due, status_of, stopped};
+ghost use Rattle.p11_rk11.specs.Starts.{after_start_on};
+ghost use Rattle.p11_rk11.specs.State.{contents_of, heads_at, seek_due, status_of, drive_after_init};
 ghost use Rattle.p11_rk11.specs.View.{visible_drive, prepared_sectors, contents_lent, IsPreparedDrive, is_listed};
 
 use crate::controller::Heads;
@@ -67,7 +68,8 @@ pub(crate) fn start<A: Allocator>(
     registers: &mut Registers,
 )
     requires { turn ≤ 2 ^ 62 }
-    ensures started { started_on turn registers.old (visible_drive bay.old) ≡ (registers.new, visible_drive bay.new) }
+    ensures started { after_start_on turn registers.old (visible_drive bay.old)
+        ≡ (registers.new, visible_drive bay.new) }
     ensures prepared { prepared_sectors bay.new ≡ prepared_sectors bay.old }
 {
     match bay.take() {
@@ -88,9 +90,13 @@ pub(crate) fn move_sector<A: Allocator, M: WordMemory>(
 )
     requires turn { turn ≤ 2 ^ 62 }
     requires place { is_on_disk registers.old.disk_address ≡ true }
-    requires prepared { is_write registers.old.function ≡ true → IsPreparedDrive (visible_drive bay.old) (prepared_sectors bay.old) (sector_number registers.old.disk_address) }
+    requires prepared { is_write registers.old.function ≡ true
+        → IsPreparedDrive (visible_drive bay.old) (prepared_sectors bay.old)
+        (sector_number registers.old.disk_address) }
     requires room { 256 ≤ M.room memory.old }
-    ensures moved { sector_moved_on turn registers.old (visible_drive bay.old) (M.words memory.old) ≡ (registers.new, visible_drive bay.new, M.words memory.new) }
+    ensures moved { after_sector_on turn registers.old (visible_drive bay.old) (M.words memory.old)
+        ≡ (registers.new, visible_drive bay.new, M.words memory.new) }
+    ensures room { M.room memory.old ≤ M.room memory.new + 256 }
     ensures prepared { prepared_sectors bay.new ≡ prepared_sectors bay.old }
 {
     match bay.take() {
@@ -110,7 +116,7 @@ pub(crate) fn finish_seek<A: Allocator>(
     registers: &mut Registers,
 )
     requires { n < 8 }
-    ensures done { seek_done turn n registers.old (visible_drive bay.old) ≡ (registers.new, visible_drive bay.new) }
+    ensures done { after_seek_on turn n registers.old (visible_drive bay.old) ≡ (registers.new, visible_drive bay.new) }
     ensures prepared { prepared_sectors bay.new ≡ prepared_sectors bay.old }
 {
     if let Some(mut mounted) = bay.take() {
@@ -124,7 +130,7 @@ pub(crate) fn finish_seek<A: Allocator>(
 
 /// Ends a seek.
 pub(crate) fn stop<A: Allocator>(bay: &mut Option<Mounted<A>>)
-    ensures visible { visible_drive bay.new ≡ stopped (visible_drive bay.old) }
+    ensures visible { visible_drive bay.new ≡ drive_after_init (visible_drive bay.old) }
     ensures prepared { prepared_sectors bay.new ≡ prepared_sectors bay.old }
 {
     if let Some(mut mounted) = bay.take() {
@@ -140,10 +146,14 @@ pub(crate) fn prepare<A: Allocator>(
 ) -> Result<(), AllocError>
     requires { is_on_disk place ≡ true }
     ensures visible { visible_drive bay.new ≡ visible_drive bay.old }
-    ensures ok { OnOk result (IsPreparedDrive (visible_drive bay.new) (prepared_sectors bay.new) (sector_number place)) }
+    ensures others { (m : ℕ) → IsTrue (list_any (nat_eq m) (prepared_sectors bay.old))
+        → IsTrue (list_any (nat_eq m) (prepared_sectors bay.new)) }
+    ensures ok { OnOk result (IsPreparedDrive (visible_drive bay.new) (prepared_sectors bay.new)
+        (sector_number place)) }
     ensures err { OnErr result (bay.new ≡ bay.old) }
     ensures listed { is_listed (visible_drive bay.old) (sector_number place) ≡ true → IsOk result }
-    ensures again { IsPreparedDrive (visible_drive bay.old) (prepared_sectors bay.old) (sector_number place) → IsOk result }
+    ensures again { IsPreparedDrive (visible_drive bay.old) (prepared_sectors bay.old) (sector_number place)
+        → IsOk result }
 {
     match bay.take() {
         Some(mut mounted) => {

@@ -1,11 +1,11 @@
 //! The controller with its drives.
-ghost use Rattle.std.specs.Prelude.{◌≡◌, ℕ, ◌<◌, ◌≤◌, ◌^◌, ◌+◌, ◌*◌, Some, None, is_some, IsSome, true, false, not, OnOk, OnErr, IsOk, option_map, slice_set, slice_index_or, option_copied, []};
-ghost use Rattle.p11_rk11.specs.Acts.{act_of, sector_moved_on, moved_at, transfer_act, due_sector_moved, seek_act, seeks_act};
+ghost use Rattle.std.specs.Prelude.{◌≡◌, ℕ, ◌<◌, ◌≤◌, ◌^◌, ◌+◌, ◌*◌, Some, None, is_some, IsSome, true, false, not, OnOk, OnErr, IsOk, option_map, slice_set, slice_index_or, option_copied, [], replicate};
+ghost use Rattle.p11_rk11.specs.Acts.{disk_after_turn, after_sector_on, disk_and_memory_with, disk_after_transfer, disk_after_due_sector, stores_of, disk_after_seek, disk_after_seeks};
 ghost use Rattle.p11_rk11.specs.Functions.{is_write};
 ghost use Rattle.p11_rk11.specs.Place.{is_on_disk, sector_number};
 ghost use Rattle.p11_rk11.specs.Registers.{cleared_registers};
-ghost use Rattle.p11_rk11.specs.Starts.{register_written, control_written, value_written, gone, function_of_go, started_on};
-ghost use Rattle.p11_rk11.specs.State.{new_rk11, register_word, drive_of, selected, with_drive, with_part, due_of, due_among, seek_due, is_busy, contents_of, heads_at, fresh_drive, init_of, all_stopped, stopped, acknowledged, status_of, earlier};
+ghost use Rattle.p11_rk11.specs.Starts.{disk_after_write, disk_after_control_write, disk_after_value_write, disk_after_go, disk_after_start, after_start_on};
+ghost use Rattle.p11_rk11.specs.State.{new_disk, disk_word, drive_of, selected, with_drive, with_registers_and_drive, disk_due, due_among, seek_due, is_busy, contents_of, heads_at, drive_after_mount, disk_after_init, disk_after_mount, disk_after_unmount, drive_count, drive_after_init, disk_after_service, status_of, earlier};
 ghost use Rattle.p11_rk11.specs.Registers.{is_due};
 
 use crate::bay;
@@ -14,6 +14,7 @@ use crate::memory::WordMemory;
 use crate::mounted::Mounted;
 use crate::register::Register;
 use crate::registers::{Registers, is_due};
+use crate::sector::Stores;
 use p11_overlay::Drive;
 use std::alloc::{AllocError, Allocator, Global};
 use std::marker::Model;
@@ -31,7 +32,7 @@ pub struct Heads {
 }
 
 /// The RK11 disk controller with its drives.
-#[derive(Drop)]
+#[derive(Debug, Drop)]
 pub struct Rk11<A: Allocator = Global> {
     registers: Registers,
     drives: [Option<Mounted<A>>; DRIVES],
@@ -39,23 +40,24 @@ pub struct Rk11<A: Allocator = Global> {
 
 impl<A: Allocator> Model for Rk11<A> {
     ghost use Rattle.std.specs.Prelude.{◌≡◌, length};
-    ghost use Rattle.p11_rk11.specs.declared.controller.TheConstants.{DRIVES};
+    ghost use Rattle.p11_rk11.specs.State.{drive_count};
     ghost use Rattle.p11_rk11.specs.View.{Rk11View, view_of};
 
     ghost Value = { Rk11View };
 
     ghost view = { λ c. view_of c.registers c.drives };
 
-    ghost invariant = { λ c. length c.drives ≡ DRIVES };
+    ghost invariant = { λ c. length c.drives ≡ drive_count };
 }
 
 impl<A: Allocator> Rk11<A> {
-    ghost use Rattle.p11_rk11.specs.View.{IsPreparedFor, IsPreparedSector, needs_memory, write_is_due, contents_lent, is_listed};
+    ghost use Rattle.p11_rk11.specs.View.{IsPreparedFor, KeepsPrepared, IsPreparedSector, needs_memory, write_is_due, contents_lent, is_listed};
 
     /// A controller with no drive mounted.
-    #[tactic(auto, unfolding(crate::specs::State::new_rk11))]
+    #[tactic(auto, unfolding(crate::specs::State::new_disk))]
     pub fn new() -> Self
-        ensures { result.state ≡ new_rk11 }
+        ensures state { result.state ≡ new_disk }
+        ensures prepared { result.prepared ≡ replicate drive_count [] }
     {
         Rk11 {
             registers: Registers::cleared(),
@@ -64,16 +66,16 @@ impl<A: Allocator> Rk11<A> {
     }
 
     /// The word that a register shows in a turn.
-    #[tactic(auto, unfolding(crate::specs::State::register_word))]
+    #[tactic(auto, unfolding(crate::specs::State::disk_word))]
     pub fn read(&self, turn: u64, register: Register) -> u16
-        ensures { result ≡ register_word turn register self.now.state }
+        ensures { result ≡ disk_word turn register self.now.state }
     {
         match register {
             Register::DriveStatus => self.drive_status(turn),
             Register::Error => self.registers.errors.word(),
             Register::ControlStatus => self.registers.control_word(),
             Register::WordCount => self.registers.word_count,
-            Register::BusAddress => self.registers.bus_address.low,
+            Register::BusAddress => self.registers.bus_address.low(),
             Register::DiskAddress => self.registers.disk_address.word(),
             Register::DataBuffer => 0,
         }
@@ -81,7 +83,8 @@ impl<A: Allocator> Rk11<A> {
 
     /// RKDS as a word.
     fn drive_status(&self, turn: u64) -> u16
-        ensures { result ≡ self.now.state.registers.finished_seek * 0o20000 + status_of turn self.now.state.registers.disk_address.sector (selected self.now.state) }
+        ensures { result ≡ self.now.state.registers.finished_seek * 0o20000
+            + status_of turn self.now.state.registers.disk_address.sector (selected self.now.state) }
     {
         let status = self.selected_status(turn);
         u16::from(self.registers.finished_seek.number()) * 0o20000 + status
@@ -101,25 +104,27 @@ impl<A: Allocator> Rk11<A> {
     }
 
     /// Writes a register in a turn.
-    #[tactic(auto, unfolding(crate::specs::Starts::register_written))]
+    #[tactic(auto, unfolding(crate::specs::Starts::disk_after_write))]
     pub fn write(&mut self, turn: u64, register: Register, word: u16)
         requires { turn ≤ 2 ^ 62 }
-        ensures state { self.new.state ≡ register_written turn register word self.old.state }
+        ensures state { self.new.state ≡ disk_after_write turn register word self.old.state }
         ensures prepared { self.new.prepared ≡ self.old.prepared }
     {
         match register {
             Register::ControlStatus => self.write_control(turn, word),
-            Register::WordCount | Register::BusAddress | Register::DiskAddress => {
-                self.write_value(register, word);
-            }
-            Register::DriveStatus | Register::Error | Register::DataBuffer => {}
+            Register::DriveStatus
+            | Register::Error
+            | Register::WordCount
+            | Register::BusAddress
+            | Register::DiskAddress
+            | Register::DataBuffer => self.write_value(register, word),
         }
     }
 
-    /// Writes RKWC, RKBA or RKDA, while ready.
-    #[tactic(auto, unfolding(crate::specs::Starts::value_written))]
+    /// Writes a register other than RKCS, which is ignored while not ready.
+    #[tactic(auto, unfolding(crate::specs::Starts::disk_after_value_write))]
     fn write_value(&mut self, register: Register, word: u16)
-        ensures state { self.new.state ≡ value_written register word self.old.state }
+        ensures state { self.new.state ≡ disk_after_value_write register word self.old.state }
         ensures prepared { self.new.prepared ≡ self.old.prepared }
     {
         if self.registers.is_ready() {
@@ -128,10 +133,10 @@ impl<A: Allocator> Rk11<A> {
     }
 
     /// Writes RKCS.
-    #[tactic(auto, unfolding(crate::specs::Starts::control_written))]
+    #[tactic(auto, unfolding(crate::specs::Starts::disk_after_control_write))]
     fn write_control(&mut self, turn: u64, word: u16)
         requires { turn ≤ 2 ^ 62 }
-        ensures state { self.new.state ≡ control_written turn word self.old.state }
+        ensures state { self.new.state ≡ disk_after_control_write turn word self.old.state }
         ensures prepared { self.new.prepared ≡ self.old.prepared }
     {
         let rises = self.registers.take_enable(word);
@@ -147,10 +152,10 @@ impl<A: Allocator> Rk11<A> {
     }
 
     /// GO, while ready.
-    #[tactic(auto, unfolding(crate::specs::Starts::gone))]
+    #[tactic(auto, unfolding(crate::specs::Starts::disk_after_go))]
     fn go(&mut self, turn: u64)
         requires { turn ≤ 2 ^ 62 }
-        ensures state { self.new.state ≡ gone turn self.old.state }
+        ensures state { self.new.state ≡ disk_after_go turn self.old.state }
         ensures prepared { self.new.prepared ≡ self.old.prepared }
     {
         if self.registers.function.is_reset() {
@@ -162,10 +167,10 @@ impl<A: Allocator> Rk11<A> {
     }
 
     /// Begins one of the functions 1 to 7, if no check holds.
-    #[tactic(auto, unfolding(crate::specs::Starts::function_of_go))]
+    #[tactic(auto, unfolding(crate::specs::Starts::disk_after_start))]
     fn start(&mut self, turn: u64)
         requires { turn ≤ 2 ^ 62 }
-        ensures state { self.new.state ≡ function_of_go turn self.old.state }
+        ensures state { self.new.state ≡ disk_after_start turn self.old.state }
         ensures prepared { self.new.prepared ≡ self.old.prepared }
     {
         if self.registers.format {
@@ -178,7 +183,9 @@ impl<A: Allocator> Rk11<A> {
     /// Begins a function on the selected drive.
     fn start_on(&mut self, turn: u64)
         requires { turn ≤ 2 ^ 62 }
-        ensures state { self.new.state ≡ with_part self.old.state self.old.state.registers.disk_address.drive (started_on turn self.old.state.registers (selected self.old.state)) }
+        ensures state { self.new.state
+            ≡ with_registers_and_drive self.old.state self.old.state.registers.disk_address.drive
+            (after_start_on turn self.old.state.registers (selected self.old.state)) }
         ensures prepared { self.new.prepared ≡ self.old.prepared }
     {
         let n = self.registers.disk_address.drive();
@@ -194,6 +201,7 @@ impl<A: Allocator> Rk11<A> {
     pub fn prepare(&mut self, turn: u64) -> Result<(), AllocError>
         ensures state { self.new.state ≡ self.old.state }
         ensures ok { OnOk result (IsPreparedFor turn self.new) }
+        ensures others { KeepsPrepared self.old self.new }
         ensures err { OnErr result (self.new ≡ self.old) }
         ensures needless { needs_memory turn self.old.state ≡ false → IsOk result }
         ensures again { IsPreparedFor turn self.old → IsOk result }
@@ -209,8 +217,10 @@ impl<A: Allocator> Rk11<A> {
         requires { is_on_disk self.old.state.registers.disk_address ≡ true }
         ensures state { self.new.state ≡ self.old.state }
         ensures ok { OnOk result (IsPreparedSector self.new) }
+        ensures others { KeepsPrepared self.old self.new }
         ensures err { OnErr result (self.new ≡ self.old) }
-        ensures listed { is_listed (selected self.old.state) (sector_number self.old.state.registers.disk_address) ≡ true → IsOk result }
+        ensures listed { is_listed (selected self.old.state) (sector_number self.old.state.registers.disk_address)
+            ≡ true → IsOk result }
         ensures again { IsPreparedSector self.old → IsOk result }
     {
         let n = self.registers.disk_address.drive();
@@ -223,24 +233,40 @@ impl<A: Allocator> Rk11<A> {
 
     /// What the controller does in a turn: the transfer moves its sector where one is due, and then
     /// the seeks that are due finish, by number of their drives.
-    #[tactic(auto, unfolding(crate::specs::Acts::act_of))]
+    #[tactic(auto, unfolding(crate::specs::Acts::disk_after_turn))]
     pub fn act<M: WordMemory>(&mut self, turn: u64, memory: &mut M)
         requires turn { turn ≤ 2 ^ 62 }
         requires prepared { IsPreparedFor turn self.old }
         requires room { 256 ≤ M.room memory.old }
-        ensures { act_of turn self.old.state (M.words memory.old) ≡ (self.new.state, M.words memory.new) }
+        ensures moved { disk_after_turn turn self.old.state (M.words memory.old)
+            ≡ (self.new.state, M.words memory.new) }
+        ensures room { M.room memory.old ≤ M.room memory.new + 256 }
     {
         self.move_due(turn, memory);
         self.finish_seeks(turn);
     }
 
+    /// The addresses to which the acts of a turn may store: those of the words of a read's sector that is due.
+    #[tactic(auto, unfolding(crate::specs::Acts::stores_of))]
+    pub fn stores(&self, turn: u64) -> Stores
+        ensures { result ≡ stores_of turn self.now.state }
+    {
+        if is_due(turn, self.transfer_due()) && self.registers.function.is_read() {
+            Stores::new(self.registers.span())
+        } else {
+            Stores::none()
+        }
+    }
+
     /// Moves a transfer's sector, if one is due.
-    #[tactic(auto, unfolding(crate::specs::Acts::transfer_act))]
+    #[tactic(auto, unfolding(crate::specs::Acts::disk_after_transfer))]
     fn move_due<M: WordMemory>(&mut self, turn: u64, memory: &mut M)
         requires turn { turn ≤ 2 ^ 62 }
         requires prepared { IsPreparedFor turn self.old }
         requires room { 256 ≤ M.room memory.old }
-        ensures { transfer_act turn self.old.state (M.words memory.old) ≡ (self.new.state, M.words memory.new) }
+        ensures moved { disk_after_transfer turn self.old.state (M.words memory.old)
+            ≡ (self.new.state, M.words memory.new) }
+        ensures room { M.room memory.old ≤ M.room memory.new + 256 }
     {
         if is_due(turn, self.transfer_due()) {
             self.move_sector(turn, memory);
@@ -248,13 +274,15 @@ impl<A: Allocator> Rk11<A> {
     }
 
     /// Moves the due sector of the transfer.
-    #[tactic(auto, unfolding(crate::specs::Acts::due_sector_moved))]
+    #[tactic(auto, unfolding(crate::specs::Acts::disk_after_due_sector))]
     fn move_sector<M: WordMemory>(&mut self, turn: u64, memory: &mut M)
         requires turn { turn ≤ 2 ^ 62 }
         requires due { is_due turn self.old.state.registers.transfer ≡ true }
         requires prepared { IsPreparedFor turn self.old }
         requires room { 256 ≤ M.room memory.old }
-        ensures { due_sector_moved turn self.old.state (M.words memory.old) ≡ (self.new.state, M.words memory.new) }
+        ensures moved { disk_after_due_sector turn self.old.state (M.words memory.old)
+            ≡ (self.new.state, M.words memory.new) }
+        ensures room { M.room memory.old ≤ M.room memory.new + 256 }
     {
         if self.registers.disk_address.is_on_disk() {
             self.move_on(turn, memory);
@@ -269,7 +297,10 @@ impl<A: Allocator> Rk11<A> {
         requires place { is_on_disk self.old.state.registers.disk_address ≡ true }
         requires prepared { is_write self.old.state.registers.function ≡ true → IsPreparedSector self.old }
         requires room { 256 ≤ M.room memory.old }
-        ensures { moved_at self.old.state self.old.state.registers.disk_address.drive (sector_moved_on turn self.old.state.registers (selected self.old.state) (M.words memory.old)) ≡ (self.new.state, M.words memory.new) }
+        ensures moved { disk_and_memory_with self.old.state self.old.state.registers.disk_address.drive
+            (after_sector_on turn self.old.state.registers (selected self.old.state) (M.words memory.old)) ≡
+            (self.new.state, M.words memory.new) }
+        ensures room { M.room memory.old ≤ M.room memory.new + 256 }
     {
         let n = self.registers.disk_address.drive();
         if n < DRIVES {
@@ -281,7 +312,7 @@ impl<A: Allocator> Rk11<A> {
 
     /// Finishes the seeks that are due, by number of their drives.
     fn finish_seeks(&mut self, turn: u64)
-        ensures { self.new.state ≡ seeks_act turn DRIVES self.old.state }
+        ensures { self.new.state ≡ disk_after_seeks turn drive_count self.old.state }
     {
         for n in 0..DRIVES {
             self.finish_seek(turn, n);
@@ -289,18 +320,18 @@ impl<A: Allocator> Rk11<A> {
     }
 
     /// Finishes the seek of a drive, if one is due.
-    #[tactic(auto, unfolding(crate::specs::Acts::seek_act))]
+    #[tactic(auto, unfolding(crate::specs::Acts::disk_after_seek))]
     fn finish_seek(&mut self, turn: u64, n: usize)
-        requires { n < DRIVES }
-        ensures { self.new.state ≡ seek_act turn n self.old.state }
+        requires { n < drive_count }
+        ensures { self.new.state ≡ disk_after_seek turn n self.old.state }
     {
         bay::finish_seek(&mut self.drives[n], turn, n as u8, &mut self.registers);
     }
 
     /// The earliest turn in which the transfer or a seek acts, if one is under way.
-    #[tactic(auto, unfolding(crate::specs::State::due_of))]
+    #[tactic(auto, unfolding(crate::specs::State::disk_due))]
     pub fn due(&self) -> Option<u64>
-        ensures { result ≡ due_of self.now.state }
+        ensures { result ≡ disk_due self.now.state }
     {
         let mut due = self.transfer_due();
         for n in 0..DRIVES {
@@ -324,9 +355,9 @@ impl<A: Allocator> Rk11<A> {
     }
 
     /// The service of the request begins, which drops it.
-    #[tactic(auto, unfolding(crate::specs::State::acknowledged))]
+    #[tactic(auto, unfolding(crate::specs::State::disk_after_service))]
     pub fn ack(&mut self)
-        ensures state { self.new.state ≡ acknowledged self.old.state }
+        ensures state { self.new.state ≡ disk_after_service self.old.state }
         ensures prepared { self.new.prepared ≡ self.old.prepared }
     {
         self.registers.drop_request();
@@ -334,18 +365,17 @@ impl<A: Allocator> Rk11<A> {
 
     /// Mounts a pack on a drive, with the heads at cylinder 0.
     pub fn mount(&mut self, n: usize, drive: Drive<A>)
-        requires exists { n < DRIVES }
+        requires exists { n < drive_count }
         requires empty { is_some (drive_of self.old.state n) ≡ false }
-        ensures state { self.new.state ≡ with_drive self.old.state n (Some (fresh_drive drive.contents)) }
+        ensures state { self.new.state ≡ disk_after_mount n drive.contents self.old.state }
         ensures prepared { self.new.prepared ≡ slice_set self.old.prepared n drive.prepared }
     {
         self.put(n, Mounted::new(drive));
     }
 
     /// Puts a pack with its heads on a drive.
-    #[tactic(auto, unfolding(crate::specs::State::with_drive))]
     fn put(&mut self, n: usize, mounted: Mounted<A>)
-        requires { n < DRIVES }
+        requires { n < drive_count }
         ensures state { self.new.state ≡ with_drive self.old.state n (Some mounted.visible) }
         ensures prepared { self.new.prepared ≡ slice_set self.old.prepared n mounted.prepared }
     {
@@ -353,12 +383,11 @@ impl<A: Allocator> Rk11<A> {
     }
 
     /// Takes the pack off a drive and drops it.
-    #[tactic(auto, unfolding(crate::specs::State::with_drive))]
     pub fn unmount(&mut self, n: usize)
-        requires exists { n < DRIVES }
+        requires exists { n < drive_count }
         requires mounted { is_some (drive_of self.old.state n) ≡ true }
         requires idle { is_busy n self.old.state ≡ false }
-        ensures state { self.new.state ≡ with_drive self.old.state n None }
+        ensures state { self.new.state ≡ disk_after_unmount n self.old.state }
         ensures prepared { self.new.prepared ≡ slice_set self.old.prepared n [] }
     {
         self.drives[n] = None;
@@ -392,7 +421,7 @@ impl<A: Allocator> Rk11<A> {
 
     /// Where the heads of a mounted drive are.
     pub fn heads(&self, n: usize) -> Heads
-        requires exists { n < DRIVES }
+        requires exists { n < drive_count }
         requires mounted { is_some (drive_of self.now.state n) ≡ true }
         ensures { Some result ≡ heads_at (drive_of self.now.state n) }
     {
@@ -404,9 +433,9 @@ impl<A: Allocator> Rk11<A> {
 
     /// INIT: clears the registers, and ends the transfer and all seeks; the packs stay, and so do the heads
     /// where they were.
-    #[tactic(auto, unfolding(crate::specs::State::init_of))]
+    #[tactic(auto, unfolding(crate::specs::State::disk_after_init))]
     pub fn init(&mut self)
-        ensures state { self.new.state ≡ init_of self.old.state }
+        ensures state { self.new.state ≡ disk_after_init self.old.state }
         ensures prepared { self.new.prepared ≡ self.old.prepared }
     {
         for n in 0..DRIVES {
@@ -417,8 +446,8 @@ impl<A: Allocator> Rk11<A> {
 
     /// Ends the seek of a drive.
     fn stop(&mut self, n: usize)
-        requires { n < DRIVES }
-        ensures state { self.new.state ≡ with_drive self.old.state n (stopped (drive_of self.old.state n)) }
+        requires { n < drive_count }
+        ensures state { self.new.state ≡ with_drive self.old.state n (drive_after_init (drive_of self.old.state n)) }
         ensures prepared { self.new.prepared ≡ self.old.prepared }
     {
         bay::stop(&mut self.drives[n]);

@@ -1,6 +1,5 @@
 ghost use Rattle.std.specs.Prelude.{◌≡◌, ◌<◌};
-ghost use Rattle.p11_rk11.specs.Functions.{function_of, function_number, uses_place, uses_memory, is_write};
-ghost use Rattle.p11_rk11.specs.Starts.{is_reset};
+ghost use Rattle.p11_rk11.specs.Functions.{function_of, function_number, uses_place, uses_memory, is_write, is_read, is_reset};
 
 /// The functions of RKCS 3:1, in the order of their numbers.
 #[derive(Clone, Copy, Debug, PartialEq, Eq)]
@@ -73,7 +72,14 @@ impl Function {
         matches!(self, Function::Write)
     }
 
-    #[tactic(auto, unfolding(crate::specs::Starts::is_reset))]
+    #[tactic(auto, unfolding(crate::specs::Functions::is_read))]
+    pub(crate) fn is_read(self) -> bool
+        ensures { result ≡ is_read self }
+    {
+        matches!(self, Function::Read)
+    }
+
+    #[tactic(auto, unfolding(crate::specs::Functions::is_reset))]
     pub(crate) fn is_reset(self) -> bool
         ensures { result ≡ is_reset self }
     {

@@ -6,6 +6,7 @@ mod bay;
 mod controller;
 mod errors;
 mod function;
+mod laws;
 mod memory;
 mod mounted;
 mod place;
@@ -16,9 +17,15 @@ mod sector;
 pub use controller::{DRIVES, Heads, Rk11};
 pub use errors::Errors;
 pub use function::Function;
+pub use laws::{
+    control_status_shows_its_bits, due_turns_are_later, init_twice_is_init_once, memory_stays,
+    nothing_happens_before_due, number_of_drives, places_and_numbers, words_of_a_written_sector,
+    words_that_stay,
+};
 pub use memory::WordMemory;
 pub use mounted::PendingSeek;
 pub use register::Register;
+pub use sector::Stores;
 
 #[cfg(test)]
 mod tests;

@@ -2,19 +2,19 @@
 ghost use Rattle.std.specs.Prelude.{◌≡◌, ℕ, ◌+◌, ◌<◌, ◌≤◌, ◌^◌, Some, None, true, false, IsTrue, IsOk, OnOk, OnErr, nat_eq};
 ghost use Rattle.std.specs.List.{list_any};
 ghost use Rattle.p11_rk11.specs.Drives.{MountedDrive, MountedState};
-ghost use Rattle.p11_rk11.specs.Acts.{contents_moved, drive_moved, memory_moved, differs, is_refused, sector_moved, arrived, addresses};
-ghost use Rattle.p11_rk11.specs.Functions.{is_write, uses_memory};
+ghost use Rattle.p11_rk11.specs.Acts.{contents_after_sector, drive_after_sector, memory_after_sector, differs, is_refused, after_sector, drive_after_arrival, addresses};
+ghost use Rattle.p11_rk11.specs.Functions.{is_write, uses_memory, uses_place};
 ghost use Rattle.p11_rk11.specs.Memory.{all_held};
 ghost use Rattle.p11_rk11.specs.Registers.{words_moved};
 ghost use Rattle.p11_rk11.specs.Place.{is_on_disk, sector_number};
-ghost use Rattle.p11_rk11.specs.Starts.{drive_check, seeking, locked, drive_begun, registers_begun, started, arrival};
-ghost use Rattle.p11_rk11.specs.State.{drive_status, turn_of, heads_of, fresh_drive};
+ghost use Rattle.p11_rk11.specs.Starts.{drive_check, seeking, locked, drive_after_begin, registers_after_begin, after_start, arrival};
+ghost use Rattle.p11_rk11.specs.State.{drive_status, seek_turn, heads_of, drive_after_mount};
 
 use crate::controller::Heads;
 use crate::errors::{Failure, flag};
 use crate::function::Function;
 use crate::memory::WordMemory;
-use crate::place::DiskAddress;
+use crate::place::{Cylinder, DiskAddress};
 use crate::registers::Registers;
 use crate::sector::{bytes_of, words_of};
 use p11_overlay::Drive;
@@ -27,14 +27,14 @@ pub struct PendingSeek {
     /// The turn in which the heads arrive.
     pub due: u64,
     /// The cylinder where they go.
-    pub cylinder: u8,
+    pub cylinder: Cylinder,
 }
 
 /// A drive with its pack and its heads.
-#[derive(Drop)]
+#[derive(Debug, Drop)]
 pub(crate) struct Mounted<A: Allocator = Global> {
     drive: Drive<A>,
-    cylinder: u8,
+    cylinder: Cylinder,
     seek: Option<PendingSeek>,
 }
 
@@ -43,19 +43,22 @@ impl<A: Allocator> Model for Mounted<A> {
 
     ghost Value = { MountedState };
 
-    ghost view = { λ m. record { visible = record { contents = m.drive.contents; cylinder = m.cylinder; seek = m.seek }; prepared = m.drive.prepared } };
+    ghost view = { λ m. record {
+      visible = record { contents = m.drive.contents; cylinder = m.cylinder; seek = m.seek };
+      prepared = m.drive.prepared;
+    } };
 }
 
 impl<A: Allocator> Mounted<A> {
     /// A drive on which a pack was mounted just now.
-    #[tactic(auto, unfolding(crate::specs::State::fresh_drive))]
+    #[tactic(auto, unfolding(crate::specs::State::drive_after_mount))]
     pub(crate) fn new(drive: Drive<A>) -> Self
-        ensures visible { result.visible ≡ fresh_drive drive.contents }
+        ensures visible { result.visible ≡ drive_after_mount drive.contents }
         ensures prepared { result.prepared ≡ drive.prepared }
     {
         Mounted {
             drive,
-            cylinder: 0,
+            cylinder: Cylinder::new(0),
             seek: None,
         }
     }
@@ -70,7 +73,7 @@ impl<A: Allocator> Mounted<A> {
 
     /// The due turn of a seek, if one is under way.
     pub(crate) fn seek_due(&self) -> Option<u64>
-        ensures { result ≡ turn_of self.now.visible.seek }
+        ensures { result ≡ seek_turn self.now.visible.seek }
     {
         match self.seek {
             Some(seek) => Some(seek.due),
@@ -83,7 +86,7 @@ impl<A: Allocator> Mounted<A> {
         ensures { result ≡ heads_of self.now.visible }
     {
         Heads {
-            cylinder: self.cylinder,
+            cylinder: self.cylinder.number(),
             due: self.seek_due(),
         }
     }
@@ -104,9 +107,11 @@ impl<A: Allocator> Mounted<A> {
     }
 
     /// The first check at GO that holds.
-    #[tactic(auto, unfolding(crate::specs::Starts::drive_check))]
+    #[tactic(auto, unfolding(crate::specs::Starts::drive_check, crate::specs::Place::is_on_disk))]
     pub(crate) fn check(&self, registers: &Registers) -> Option<Failure>
-        ensures { result ≡ drive_check registers.now self.now.visible }
+        ensures failure { result ≡ drive_check registers.now self.now.visible }
+        ensures place { result ≡ None → uses_place registers.now.function ≡ true
+            → is_on_disk registers.now.disk_address ≡ true }
     {
         let uses_place = registers.function.uses_place();
         if self.seek.is_some() {
@@ -123,17 +128,17 @@ impl<A: Allocator> Mounted<A> {
     }
 
     /// The turn in which the heads have come to a cylinder.
-    fn arrival(&self, turn: u64, cylinder: u8) -> u64
+    fn arrival(&self, turn: u64, cylinder: Cylinder) -> u64
         requires { turn ≤ 2 ^ 62 }
         ensures value { result ≡ arrival turn cylinder self.now.visible }
-        ensures bound { result ≤ turn + 16 + 255 }
+        ensures bound { result ≤ turn + 16 + 202 }
     {
-        turn + 16 + u64::from(cylinder.abs_diff(self.cylinder))
+        turn + 16 + u64::from(cylinder.number().abs_diff(self.cylinder.number()))
     }
 
     /// Sends the heads to a cylinder.
     #[tactic(auto, unfolding(crate::specs::Starts::seeking))]
-    fn send_heads(&mut self, turn: u64, cylinder: u8)
+    fn send_heads(&mut self, turn: u64, cylinder: Cylinder)
         requires { turn ≤ 2 ^ 62 }
         ensures visible { self.new.visible ≡ seeking turn cylinder self.old.visible }
         ensures prepared { self.new.prepared ≡ self.old.prepared }
@@ -143,39 +148,42 @@ impl<A: Allocator> Mounted<A> {
     }
 
     /// Begins a function whose checks have passed.
-    #[tactic(auto, unfolding(crate::specs::Starts::drive_begun, crate::specs::Starts::registers_begun, crate::specs::Starts::locked, crate::specs::Starts::transferring))]
+    #[tactic(auto, unfolding(crate::specs::Functions::uses_place, crate::specs::Starts::drive_after_begin, crate::specs::Starts::registers_after_begin, crate::specs::Starts::locked, crate::specs::Starts::transferring))]
     pub(crate) fn begin(&mut self, turn: u64, registers: &mut Registers)
-        requires { turn ≤ 2 ^ 62 }
-        ensures visible { self.new.visible ≡ drive_begun turn registers.old.disk_address registers.old.function self.old.visible }
-        ensures registers { registers.new ≡ registers_begun turn registers.old.function self.old.visible registers.old }
+        requires turn { turn ≤ 2 ^ 62 }
+        requires place { uses_place registers.old.function ≡ true → is_on_disk registers.old.disk_address ≡ true }
+        ensures visible { self.new.visible
+            ≡ drive_after_begin turn registers.old.disk_address registers.old.function self.old.visible }
+        ensures registers { registers.new
+            ≡ registers_after_begin turn registers.old.function self.old.visible registers.old }
         ensures prepared { self.new.prepared ≡ self.old.prepared }
     {
         match registers.function {
-            Function::ControlReset => *registers = Registers::cleared(),
             Function::Write | Function::Read | Function::WriteCheck | Function::ReadCheck => {
-                let arrival = self.arrival(turn, registers.disk_address.cylinder());
+                let arrival = self.arrival(turn, registers.disk_address.cylinder_on_disk());
                 registers.transfer = Some(arrival + 32);
             }
             Function::Seek => {
-                self.send_heads(turn, registers.disk_address.cylinder());
+                self.send_heads(turn, registers.disk_address.cylinder_on_disk());
                 registers.end();
             }
             Function::DriveReset => {
-                self.send_heads(turn, 0);
+                self.send_heads(turn, Cylinder::new(0));
                 registers.end();
             }
             Function::WriteLock => {
                 self.drive.protect();
                 registers.end();
             }
+            Function::ControlReset => registers.end(),
         }
     }
 
     /// A function that GO begins, unless a check holds.
-    #[tactic(auto, unfolding(crate::specs::Starts::started))]
+    #[tactic(auto, unfolding(crate::specs::Starts::after_start))]
     pub(crate) fn start(&mut self, turn: u64, registers: &mut Registers)
         requires { turn ≤ 2 ^ 62 }
-        ensures started { started turn registers.old self.old.visible ≡ (registers.new, self.new.visible) }
+        ensures started { after_start turn registers.old self.old.visible ≡ (registers.new, self.new.visible) }
         ensures prepared { self.new.prepared ≡ self.old.prepared }
     {
         match self.check(registers) {
@@ -185,9 +193,9 @@ impl<A: Allocator> Mounted<A> {
     }
 
     /// The heads have come to where a seek sent them.
-    #[tactic(auto, unfolding(crate::specs::Acts::arrived))]
+    #[tactic(auto, unfolding(crate::specs::Acts::drive_after_arrival))]
     pub(crate) fn arrive(&mut self)
-        ensures visible { self.new.visible ≡ arrived self.old.visible }
+        ensures visible { self.new.visible ≡ drive_after_arrival self.old.visible }
         ensures prepared { self.new.prepared ≡ self.old.prepared }
     {
         if let Some(seek) = self.seek {
@@ -208,24 +216,36 @@ impl<A: Allocator> Mounted<A> {
     pub(crate) fn prepare(&mut self, place: DiskAddress) -> Result<(), AllocError>
         requires { is_on_disk place ≡ true }
         ensures visible { self.new.visible ≡ self.old.visible }
+        ensures others { (m : ℕ) → IsTrue (list_any (nat_eq m) self.old.prepared)
+            → IsTrue (list_any (nat_eq m) self.new.prepared) }
         ensures ok { OnOk result (IsTrue (list_any (nat_eq (sector_number place)) self.new.prepared)) }
         ensures err { OnErr result (self.new ≡ self.old) }
         ensures prepared { IsTrue (list_any (nat_eq (sector_number place)) self.old.prepared) → IsOk result }
-        ensures changed { IsTrue (list_any (nat_eq (sector_number place)) self.old.visible.contents.changed) → IsOk result }
+        ensures changed { IsTrue (list_any (nat_eq (sector_number place)) self.old.visible.contents.changed)
+            → IsOk result }
     {
         self.drive.prepare(place.sector_number())
     }
 
     /// Moves the words of one sector, and says whether a write check found a difference.
-    #[tactic(auto, unfolding(crate::specs::Acts::contents_moved, crate::specs::Acts::memory_moved, crate::specs::Acts::differs, crate::specs::Functions::is_write, crate::specs::Functions::uses_memory))]
+    #[tactic(auto, unfolding(crate::specs::Acts::contents_after_sector, crate::specs::Acts::memory_after_sector, crate::specs::Acts::differs, crate::specs::Functions::is_write, crate::specs::Functions::uses_memory))]
     fn move_words<M: WordMemory>(&mut self, registers: &Registers, memory: &mut M) -> bool
         requires place { is_on_disk registers.now.disk_address ≡ true }
-        requires prepared { IsTrue (is_write registers.now.function) → IsTrue (list_any (nat_eq (sector_number registers.now.disk_address)) self.old.prepared) }
-        requires held { uses_memory registers.now.function ≡ true → all_held (addresses registers.now) (words_moved registers.now) (M.words memory.old) ≡ true }
+        requires prepared { IsTrue (is_write registers.now.function)
+            → IsTrue (list_any (nat_eq (sector_number registers.now.disk_address)) self.old.prepared) }
+        requires held { uses_memory registers.now.function ≡ true
+            → all_held (addresses registers.now) (words_moved registers.now) (M.words memory.old) ≡ true }
         requires room { 256 ≤ M.room memory.old }
-        ensures visible { self.new.visible ≡ contents_moved registers.now.function registers.now (M.words memory.old) self.old.visible }
-        ensures memory { M.words memory.new ≡ memory_moved registers.now.function registers.now self.old.visible (M.words memory.old) }
-        ensures differs { result ≡ differs registers.now.function registers.now self.old.visible (M.words memory.old) }
+        ensures visible { self.new.visible
+            ≡ record self.old.visible {
+              contents = contents_after_sector registers.now.function registers.now
+                  (M.words memory.old) self.old.visible.contents;
+            } }
+        ensures memory { M.words memory.new
+            ≡ memory_after_sector registers.now.function registers.now self.old.visible.contents (M.words memory.old) }
+        ensures room { M.room memory.old ≤ M.room memory.new + 256 }
+        ensures differs { result
+            ≡ differs registers.now.function registers.now self.old.visible.contents (M.words memory.old) }
         ensures prepared { self.new.prepared ≡ self.old.prepared }
     {
         let n = registers.disk_address.sector_number();
@@ -249,7 +269,7 @@ impl<A: Allocator> Mounted<A> {
     }
 
     /// Moves one sector of a transfer, or ends the function where an address isn't memory.
-    #[tactic(auto, unfolding(crate::specs::Acts::sector_moved, crate::specs::Acts::drive_moved))]
+    #[tactic(auto, unfolding(crate::specs::Acts::after_sector, crate::specs::Acts::drive_after_sector))]
     pub(crate) fn move_sector<M: WordMemory>(
         &mut self,
         turn: u64,
@@ -258,9 +278,12 @@ impl<A: Allocator> Mounted<A> {
     )
         requires turn { turn ≤ 2 ^ 62 }
         requires place { is_on_disk registers.old.disk_address ≡ true }
-        requires prepared { IsTrue (is_write registers.old.function) → IsTrue (list_any (nat_eq (sector_number registers.old.disk_address)) self.old.prepared) }
+        requires prepared { IsTrue (is_write registers.old.function)
+            → IsTrue (list_any (nat_eq (sector_number registers.old.disk_address)) self.old.prepared) }
         requires room { 256 ≤ M.room memory.old }
-        ensures moved { sector_moved turn registers.old self.old.visible (M.words memory.old) ≡ (registers.new, self.new.visible, M.words memory.new) }
+        ensures moved { after_sector turn registers.old self.old.visible (M.words memory.old)
+            ≡ (registers.new, self.new.visible, M.words memory.new) }
+        ensures room { M.room memory.old ≤ M.room memory.new + 256 }
         ensures prepared { self.new.prepared ≡ self.old.prepared }
     {
         if is_refused(registers, memory) {
@@ -268,7 +291,7 @@ impl<A: Allocator> Mounted<A> {
             return;
         }
         let differs = self.move_words(registers, memory);
-        self.cylinder = registers.disk_address.cylinder();
+        self.cylinder = registers.disk_address.cylinder_on_disk();
         registers.sector_moved(turn, differs);
     }
 }

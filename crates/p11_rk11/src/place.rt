@@ -35,6 +35,38 @@ impl DriveNumber {
     }
 }
 
+/// A cylinder of a pack, 0 to 202.
+#[derive(Clone, Copy, Debug, PartialEq, Eq)]
+pub struct Cylinder(u8);
+
+impl Model for Cylinder {
+    ghost use Rattle.std.specs.Prelude.{ℕ, ◌<◌};
+
+    ghost Value = { ℕ };
+
+    ghost view = { λ c. c.0 };
+
+    ghost invariant = { λ c. c.0 < 203 };
+
+    ghost inverse = { λ n. record { 0 = n } };
+}
+
+impl Cylinder {
+    pub(crate) fn new(number: u8) -> Cylinder
+        requires { number < 203 }
+        ensures { result ≡ number }
+    {
+        Cylinder(number)
+    }
+
+    pub(crate) fn number(self) -> u8
+        ensures value { result ≡ self }
+        ensures bound { result < 203 }
+    {
+        self.0
+    }
+}
+
 /// RKDA: a drive and a place on it, which may lie outside its 203 cylinders of 12 sectors.
 #[derive(Clone, Copy, Debug, PartialEq, Eq)]
 pub struct DiskAddress {
@@ -94,6 +126,15 @@ impl DiskAddress {
         ensures { result ≡ self.cylinder }
     {
         self.cylinder
+    }
+
+    /// The cylinder of a place on the pack.
+    #[tactic(auto, unfolding(crate::specs::Place::is_on_disk))]
+    pub(crate) fn cylinder_on_disk(self) -> Cylinder
+        requires { is_on_disk self ≡ true }
+        ensures { result ≡ self.cylinder }
+    {
+        Cylinder::new(self.cylinder)
     }
 
     pub(crate) fn sector(self) -> u8

@@ -1,9 +1,9 @@
 //! The controller's registers as their parts, and what each event makes of them.
 ghost use Rattle.std.specs.Prelude.{◌≡◌, ◌<◌, ◌≤◌, ◌+◌, ◌^◌, Some, None, is_some, true, false};
-ghost use Rattle.p11_rk11.specs.Acts.{search_completed};
+ghost use Rattle.p11_rk11.specs.Acts.{registers_after_seek};
 ghost use Rattle.p11_rk11.specs.Place.{is_on_disk};
-ghost use Rattle.p11_rk11.specs.Starts.{go_cleared, value_taken};
-ghost use Rattle.p11_rk11.specs.Registers.{is_due, cleared_registers, control_word, low_bits, high_bits, taken_enable, enable_rises, taken_control, words_left, words_moved, ended, failed, requested, counted, noted, continued, registers_moved, is_ready};
+ghost use Rattle.p11_rk11.specs.Starts.{registers_cleared_by_go, registers_with_value};
+ghost use Rattle.p11_rk11.specs.Registers.{is_due, cleared_registers, control_word, low_bits, high_bits, with_enable, enable_rises, with_control, words_left, words_moved, ended, failed, requested, counters_advanced, with_difference, next_sector_or_end, registers_after_sector, is_ready};
 
 use crate::address::BusAddress;
 use crate::errors::{Errors, Failure, flag};
@@ -13,7 +13,7 @@ use crate::register::Register;
 use crate::sector::Span;
 
 /// The registers of the controller.
-#[derive(Drop)]
+#[derive(Debug, Drop)]
 pub struct Registers {
     /// RKER.
     pub errors: Errors,
@@ -58,7 +58,7 @@ impl Registers {
             inhibit_increment: false,
             search_complete: false,
             word_count: 0,
-            bus_address: BusAddress::ZERO,
+            bus_address: BusAddress::zero(),
             disk_address: DiskAddress::from_word(0),
             finished_seek: DriveNumber::new(0),
             transfer: None,
@@ -79,9 +79,9 @@ impl Registers {
     }
 
     /// RKCS takes its enable bit, and says whether that has risen. Without enable no request stands.
-    #[tactic(auto, unfolding(crate::specs::Registers::taken_enable, crate::specs::Registers::enable_rises))]
+    #[tactic(auto, unfolding(crate::specs::Registers::with_enable, crate::specs::Registers::enable_rises))]
     pub(crate) fn take_enable(&mut self, word: u16) -> bool
-        ensures state { self.new ≡ taken_enable word self.old }
+        ensures state { self.new ≡ with_enable word self.old }
         ensures rises { result ≡ enable_rises word self.old }
     {
         let was_enabled = self.enable;
@@ -96,25 +96,25 @@ impl Registers {
     }
 
     /// RKCS takes what a write gives it while ready, but for enable and GO.
-    #[tactic(auto, unfolding(crate::specs::Registers::taken_control))]
+    #[tactic(auto, unfolding(crate::specs::Registers::with_control))]
     pub(crate) fn take_control(&mut self, word: u16)
-        ensures { self.new ≡ taken_control word self.old }
+        ensures { self.new ≡ with_control word self.old }
     {
         self.function = Function::from_number(word >> 1 & 7);
-        self.bus_address.extension = (word >> 4 & 3) as u8;
+        self.bus_address = self.bus_address.with_extension(word >> 4 & 3);
         self.stop_on_soft_error = word >> 8 & 1 == 1;
         self.format = word >> 10 & 1 == 1;
         self.inhibit_increment = word >> 11 & 1 == 1;
     }
 
     /// Writes RKWC, RKBA or RKDA. RKBA has no bit 0.
-    #[tactic(auto, unfolding(crate::specs::Starts::value_taken))]
+    #[tactic(auto, unfolding(crate::specs::Starts::registers_with_value))]
     pub(crate) fn set(&mut self, register: Register, word: u16)
-        ensures { self.new ≡ value_taken register word self.old }
+        ensures { self.new ≡ registers_with_value register word self.old }
     {
         match register {
             Register::WordCount => self.word_count = word,
-            Register::BusAddress => self.bus_address.low = word & 0o177776,
+            Register::BusAddress => self.bus_address = self.bus_address.with_low(word),
             Register::DiskAddress => self.disk_address = DiskAddress::from_word(word),
             Register::DriveStatus
             | Register::Error
@@ -162,10 +162,10 @@ impl Registers {
     #[tactic(auto, unfolding(crate::specs::Registers::low_bits))]
     fn low_bits(&self) -> u16
         ensures value { result ≡ low_bits self.now }
-        ensures bound { result ≤ 0o10276 }
+        ensures bound { result ≤ 0o376 }
     {
         self.function.number() * 0o2
-            + self.bus_address.extension_bits()
+            + self.bus_address.extension() * 0o20
             + flag(self.enable, 0o100)
             + flag(self.is_ready(), 0o200)
     }
@@ -221,10 +221,10 @@ impl Registers {
     }
 
     /// The counters go on by one sector's words.
-    #[tactic(auto, unfolding(crate::specs::Registers::counted, crate::specs::Registers::words_moved))]
+    #[tactic(auto, unfolding(crate::specs::Registers::counters_advanced, crate::specs::Registers::words_moved))]
     fn count(&mut self)
         requires { is_on_disk self.old.disk_address ≡ true }
-        ensures { self.new ≡ counted self.old }
+        ensures { self.new ≡ counters_advanced self.old }
     {
         let moved = self.words_moved();
         if self.function.uses_memory() && !self.inhibit_increment {
@@ -235,10 +235,10 @@ impl Registers {
     }
 
     /// A moved sector is followed by the function's end or the next sector.
-    #[tactic(auto, unfolding(crate::specs::Registers::continued))]
+    #[tactic(auto, unfolding(crate::specs::Registers::next_sector_or_end))]
     fn go_on(&mut self, turn: u64, was_last: bool, differs: bool)
         requires { turn ≤ 2 ^ 62 }
-        ensures { self.new ≡ continued turn was_last differs self.old }
+        ensures { self.new ≡ next_sector_or_end turn was_last differs self.old }
     {
         if was_last {
             self.end();
@@ -252,19 +252,19 @@ impl Registers {
     }
 
     /// GO clears the soft error and search complete.
-    #[tactic(auto, unfolding(crate::specs::Starts::go_cleared))]
+    #[tactic(auto, unfolding(crate::specs::Starts::registers_cleared_by_go))]
     pub(crate) fn clear_at_go(&mut self)
-        ensures { self.new ≡ go_cleared self.old }
+        ensures { self.new ≡ registers_cleared_by_go self.old }
     {
         self.errors.write_check = false;
         self.search_complete = false;
     }
 
     /// A seek is done.
-    #[tactic(auto, unfolding(crate::specs::Acts::search_completed))]
+    #[tactic(auto, unfolding(crate::specs::Acts::registers_after_seek))]
     pub(crate) fn complete_search(&mut self, drive: u8)
         requires { drive < 8 }
-        ensures { self.new ≡ search_completed drive self.old }
+        ensures { self.new ≡ registers_after_seek drive self.old }
     {
         self.search_complete = true;
         self.finished_seek = DriveNumber::new(drive);
@@ -272,11 +272,11 @@ impl Registers {
     }
 
     /// What a moved sector does to the registers.
-    #[tactic(auto, unfolding(crate::specs::Registers::registers_moved, crate::specs::Registers::noted))]
+    #[tactic(auto, unfolding(crate::specs::Registers::registers_after_sector, crate::specs::Registers::with_difference))]
     pub(crate) fn sector_moved(&mut self, turn: u64, differs: bool)
         requires turn { turn ≤ 2 ^ 62 }
         requires place { is_on_disk self.old.disk_address ≡ true }
-        ensures { self.new ≡ registers_moved turn differs self.old }
+        ensures { self.new ≡ registers_after_sector turn differs self.old }
     {
         let was_last = self.words_left() <= 256;
         if differs {

@@ -1,5 +1,6 @@
 //! The words of one sector: between its bytes and memory.
-ghost use Rattle.std.specs.Prelude.{◌≡◌, ℕ, ◌+◌, ◌<◌, ◌≤◌, length, true, not, nat_eq, IsSome, take};
+ghost use Rattle.std.specs.Prelude.{◌≡◌, ℕ, ◌+◌, ◌<◌, ◌≤◌, length, true, not, nat_eq, take, map, slice_index, []};
+ghost use Rattle.std.specs.List.{range_with_len};
 ghost use Rattle.std.specs.Cmp.Lexicographic.{pointwise};
 ghost use Rattle.p11_rk11.specs.Address.{word_address};
 ghost use Rattle.p11_rk11.specs.Memory.{all_held, all_stored};
@@ -8,6 +9,7 @@ ghost use Rattle.p11_rk11.specs.Sector.{words_of_sector, bytes_of_words, words_f
 use crate::address::BusAddress;
 use crate::memory::WordMemory;
 use byteorder::{ByteOrder, LittleEndian};
+use std::marker::Model;
 
 /// The words in the bytes of a sector.
 pub(crate) fn words_of(bytes: &[u8]) -> [u16; 256]
@@ -30,12 +32,67 @@ pub(crate) fn bytes_of(words: &[u16; 256]) -> [u8; 512]
 }
 
 /// The memory of one sector's words.
-#[derive(Clone, Copy)]
+#[derive(Clone, Copy, Debug)]
 pub(crate) struct Span {
     pub(crate) start: BusAddress,
     /// Whether all words have the first word's address.
     pub(crate) stays: bool,
     pub(crate) count: u32,
+}
+
+/// The addresses to which a sector's words are stored, at most 256, in the order of the words.
+#[derive(Debug, Drop)]
+pub struct Stores {
+    span: Span,
+}
+
+impl Model for Stores {
+    ghost use Rattle.std.specs.Prelude.{ℕ, ◌≤◌, List, map};
+    ghost use Rattle.std.specs.List.{range_with_len};
+    ghost use Rattle.p11_rk11.specs.Address.{word_address};
+
+    ghost Value = { List ℕ };
+
+    ghost view = { λ s. map (word_address s.span.start s.span.stays) (range_with_len 0 s.span.count) };
+
+    ghost invariant = { λ s. s.span.count ≤ 256 };
+}
+
+impl Stores {
+    pub(crate) fn new(span: Span) -> Stores
+        requires { span.count ≤ 256 }
+        ensures { result ≡ map (word_address span.start span.stays) (range_with_len 0 span.count) }
+    {
+        Stores { span }
+    }
+
+    pub(crate) fn none() -> Stores
+        ensures { result ≡ [] }
+    {
+        Stores {
+            span: Span {
+                start: BusAddress::zero(),
+                stays: false,
+                count: 0,
+            },
+        }
+    }
+
+    /// How many they are, at most 256.
+    pub fn len(&self) -> u32
+        ensures value { result ≡ length self.now }
+        ensures bound { result ≤ 256 }
+    {
+        self.span.count
+    }
+
+    /// The address of word `k`.
+    pub fn address(&self, k: u32) -> u32
+        requires { k < length self.now }
+        ensures { result ≡ slice_index self.now k }
+    {
+        self.span.start.of_word(self.span.stays, k)
+    }
 }
 
 impl Span {
@@ -69,7 +126,9 @@ impl Span {
     pub(crate) fn differs<M: WordMemory>(self, memory: &M, words: &[u16; 256]) -> bool
         requires count { self.count ≤ 256 }
         requires held { all_held (word_address self.start self.stays) self.count (M.words memory.now) ≡ true }
-        ensures { result ≡ not (pointwise nat_eq (words_from (word_address self.start self.stays) self.count (M.words memory.now)) (take self.count words.now)) }
+        ensures { result ≡ not (pointwise nat_eq
+            (words_from (word_address self.start self.stays) self.count (M.words memory.now))
+            (take self.count words.now)) }
     {
         let count = self.count as usize;
         let loaded = self.load(memory);
@@ -81,7 +140,8 @@ impl Span {
         requires count { self.count ≤ 256 }
         requires held { all_held (word_address self.start self.stays) self.count (M.words memory.old) ≡ true }
         requires room { self.count ≤ M.room memory.old }
-        ensures words { M.words memory.new ≡ all_stored (word_address self.start self.stays) words.now self.count (M.words memory.old) }
+        ensures words { M.words memory.new
+            ≡ all_stored (word_address self.start self.stays) words.now self.count (M.words memory.old) }
         ensures room { M.room memory.old ≤ M.room memory.new + self.count }
     {
         for k in 0..self.count {

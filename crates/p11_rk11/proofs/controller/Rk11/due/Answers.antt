@@ -1,4 +1,4 @@
-use Rattle.std.proofs.Common.{ap, ◌∙◌, add-one}
+use Rattle.std.proofs.Common.{add-one}
 use Rattle.p11_rk11.specs.State.{due_among}
 use Rattle.p11_rk11.proofs.controller.Rk11.due.Goals as goal
 

@@ -1,10 +1,10 @@
 use Rattle.std.proofs.Common.{refl}
-use Rattle.p11_rk11.specs.Acts.{seek_act, seek_done}
+use Rattle.p11_rk11.specs.Acts.{disk_after_seek, after_seek_on}
 use Rattle.p11_rk11.proofs.Parts.{part_changed}
 use Rattle.p11_rk11.proofs.controller.Rk11.finish_seek.Goals as goal
 
 pub returns : goal.returns
-unfolding seek_act
+unfolding disk_after_seek
 returns g c =
     rw (← c.self.view_is)
-    (part_changed _ _ _ _ _ _ _ (λ r drive. seek_done c.args.turn c.args.n r drive) c.requires c.self.invariant refl c.finish_seek.ensures.done)
+    (part_changed _ _ _ _ _ _ _ (λ r drive. after_seek_on c.args.turn c.args.n r drive) c.requires c.self.invariant refl c.finish_seek.ensures.done)

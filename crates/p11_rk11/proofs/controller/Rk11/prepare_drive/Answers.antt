@@ -2,7 +2,7 @@ use Rattle.std.proofs.Common.{refl, sym, ap, ◌∙◌, subst, ◌≡◌, true}
 use Rattle.p11_rk11.specs.Place.{sector_number}
 use Rattle.p11_rk11.specs.State.{selected}
 use Rattle.p11_rk11.specs.View.{Rk11View, is_listed, view_of}
-use Rattle.p11_rk11.proofs.Parts.{visible_same, prepared_after, none_prepared, selected_seen, selected_prepared, on_ok}
+use Rattle.p11_rk11.proofs.Parts.{visible_same, others_prepared, prepared_after, none_prepared, selected_seen, selected_prepared, on_ok}
 use Rattle.p11_rk11.proofs.controller.Rk11.prepare_drive.Goals as goal
 
 pub returns-then-n-lt-DRIVES-clause-state : goal.returns-then-n-lt-DRIVES-clause-state
@@ -27,3 +27,8 @@ returns-then-n-lt-DRIVES-clause-again g c prepared =
 pub returns-else-n-lt-DRIVES-clause-ok : goal.returns-else-n-lt-DRIVES-clause-ok
 returns-else-n-lt-DRIVES-clause-ok g c =
     rw (← c.self.view_is) (none_prepared (view_of c.self.inside.registers c.self.inside.drives) _ c.drive-n.ensures.value c.if-n-lt-DRIVES.false)
+
+pub returns-then-n-lt-DRIVES-clause-others : goal.returns-then-n-lt-DRIVES-clause-others
+returns-then-n-lt-DRIVES-clause-others g c =
+    rw (← c.self.view_is)
+    (others_prepared _ _ _ _ _ _ c.if-n-lt-DRIVES.true c.self.invariant refl c.prepare.ensures.others)

@@ -4,4 +4,4 @@ use Rattle.p11_rk11.specs.Memory.{all_held}
 use Rattle.p11_rk11.proofs.sector.Span.is_held.Given as goal
 
 abbrev pub invariant-loop-k : goal.invariant-loop-k
-invariant-loop-k g l = all_held (word_address l.self.start l.self.stays) l.k (g.M.WordMemory.words l.memory) ≡ true
+invariant-loop-k g l = all_held (word_address l.fn.self.start l.fn.self.stays) l.k (g.M.WordMemory.words l.memory) ≡ true

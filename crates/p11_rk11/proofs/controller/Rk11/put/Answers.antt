@@ -1,0 +1,9 @@
+use Rattle.std.proofs.Common.{Some}
+use Rattle.p11_rk11.proofs.Parts.{drive_changed, prepared_changed}
+use Rattle.p11_rk11.proofs.controller.Rk11.put.Goals as goal
+
+pub returns-clause-state : goal.returns-clause-state
+returns-clause-state g c = rw (← c.self.view_is) (drive_changed _ _ c.args.n (Some c.args.mounted) c.requires)
+
+pub returns-clause-prepared : goal.returns-clause-prepared
+returns-clause-prepared g c = rw (← c.self.view_is) (prepared_changed _ c.args.n (Some c.args.mounted))

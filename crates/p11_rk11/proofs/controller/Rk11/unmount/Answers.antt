@@ -1,0 +1,11 @@
+use Rattle.std.proofs.Common.{None}
+use Rattle.p11_rk11.specs.State.{disk_after_unmount}
+use Rattle.p11_rk11.proofs.Parts.{drive_changed, prepared_changed}
+use Rattle.p11_rk11.proofs.controller.Rk11.unmount.Goals as goal
+
+pub returns-clause-state : goal.returns-clause-state
+unfolding disk_after_unmount
+returns-clause-state g c = rw (← c.self.view_is) (drive_changed _ _ c.args.n None c.requires.exists)
+
+pub returns-clause-prepared : goal.returns-clause-prepared
+returns-clause-prepared g c = rw (← c.self.view_is) (prepared_changed _ c.args.n None)
