@@ -8,8 +8,7 @@ use Rattle.std.proofs.lemmas.List.Elements.{All-contains, All-push, All-set}
 use Rattle.std.proofs.lemmas.Map.Keys.{IsDistinct-push}
 use Rattle.std.proofs.lemmas.Map.Steps.{length-le_from_distinct_below}
 use Rattle.std.proofs.lemmas.Map.Views.{Contains-from_any, exact_unsigned_eq}
-use Rattle.p11_overlay.specs.Geometry.{all_sectors, sector_bytes}
-use Rattle.p11_overlay.specs.Drive.{Contents, IsWhole, written}
+use Rattle.p11_overlay.specs.Drive.{Contents, IsWhole, all_sectors, sector_bytes, written}
 
 -- each sector is listed once at most, so the list is no longer than there are sectors
 pub length_changed : (c : Contents) → IsWhole c → length c.changed ≤ all_sectors

@@ -6,8 +6,7 @@ use Rattle.std.proofs.lemmas.List.{same_lists, places, append_assoc, append-nil,
 use Rattle.std.proofs.lemmas.List.Elements.{All-from_get_or, All-head, All-nil, All-tail}
 use Rattle.std.proofs.lemmas.List.Folds.{list_any_at}
 use Rattle.std.proofs.lemmas.List.FromFn.{fill_by_all, get_or-map-range_with_len, get_or-range_with_len, length-map-range_with_len, length-range_with_len, map-range_with_len_more}
-use Rattle.p11_overlay.specs.Geometry.{all_sectors, image_bytes}
-use Rattle.p11_overlay.specs.Drive.{IsWhole, filled, mounted, sector_within, sectors_of}
+use Rattle.p11_overlay.specs.Drive.{IsWhole, all_sectors, image_bytes, filled, mounted, sector_within, sectors_of}
 use Rattle.p11_overlay.specs.Kept.{sector_numbers}
 
 -- a range of numbers has each below its end

@@ -1,8 +1,17 @@
 -- An RK05 drive with a pack on it: what the pack holds, and which sectors may be written.
--- Sector numbers count by sector, then by surface, then by cylinder.
+-- A pack has 203 cylinders of 2 surfaces of 12 sectors of 512 bytes, which are numbered in that order: by cylinder,
+-- then by surface, then by sector.
 use Rattle.std.specs.Prelude.{◌≡◌, ℕ, ◌-◌, ◌*◌, ◌<◌, Bool, IsTrue, nat_eq, List, [], ◌∷◌, ◌++◌, length, take, drop, map, replicate, slice_set, slice_index_or, All, if◌then◌else◌}
 use Rattle.std.specs.List.{list_any, range_with_len, concat, IsDistinct}
-use Rattle.p11_overlay.specs.Geometry.{all_sectors, image_bytes, sector_bytes}
+
+abbrev pub all_sectors : ℕ
+all_sectors = 4872
+
+abbrev pub sector_bytes : ℕ
+sector_bytes = 512
+
+abbrev pub image_bytes : ℕ
+image_bytes = 2494464
 
 -- The bytes of each sector, the write-protect mark, and the numbers of the sectors that were written
 -- since the mount, each once, in the order of their first writes.

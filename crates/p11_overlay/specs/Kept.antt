@@ -1,8 +1,7 @@
 -- How this drive keeps a pack: a whole copy. Nothing outside the drive speaks of it.
 use Rattle.std.specs.Prelude.{ℕ, ◌≤◌, Bool, List}
 use Rattle.std.specs.List.{range_with_len}
-use Rattle.p11_overlay.specs.Geometry.{all_sectors}
-use Rattle.p11_overlay.specs.Drive.{Contents, IsWhole}
+use Rattle.p11_overlay.specs.Drive.{Contents, IsWhole, all_sectors}
 
 -- the numbers of all sectors: each may be written from the mount on
 unfoldable pub sector_numbers : List ℕ

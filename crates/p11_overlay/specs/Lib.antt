@@ -1,3 +1,2 @@
 pub mod Drive
-pub mod Geometry
 pub mod Kept

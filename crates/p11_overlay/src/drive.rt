@@ -1,8 +1,7 @@
 //! A drive as a whole copy of its pack.
 ghost use Rattle.std.specs.Prelude.{◌≡◌, ℕ, ◌<◌, ◌≤◌, ◌-◌, ◌++◌, true, false, nat_eq, length, replicate, vec_len, vec_capacity, IfOk, OnOk, OnErr, IsOk};
 ghost use Rattle.std.specs.List.{list_any};
-ghost use Rattle.p11_overlay.specs.Drive.{changed_with, filled, sector_within};
-ghost use Rattle.p11_overlay.specs.Geometry.{all_sectors, image_bytes, sector_bytes};
+ghost use Rattle.p11_overlay.specs.Drive.{all_sectors, changed_with, filled, image_bytes, sector_bytes, sector_within};
 
 use crate::geometry::{ALL_SECTORS, IMAGE_BYTES, SECTOR_BYTES};
 use std::alloc::{AllocError, Allocator, Global};

@@ -41,7 +41,7 @@ function_below WriteLock = omega arith
 
 -- the digits of a sum of weights
 record Digits (w f x d6 d7 d8 d10 d11 d13 d14 d15 : ℕ) : Type 0 where
-  go : w / 0o1 % 2 ≡ 0
+  go : w % 2 ≡ 0
   function : w / 2 % 8 ≡ f
   extension : w / 0o20 % 4 ≡ x
   b6 : w / 0o100 % 2 ≡ d6
@@ -87,16 +87,14 @@ shows_its_bits r address =
     let d = digits (control_word r) (function_number r.function) (r.bus_address / 0o200000) (digit r.enable) (digit (is_ready r)) (digit r.stop_on_soft_error) (digit r.format) (digit r.inhibit_increment) (digit r.search_complete) (digit hard) (digit any)
     (function_below r.function) (omega (arith, address)) (digit_below r.enable) (digit_below (is_ready r)) (digit_below r.stop_on_soft_error) (digit_below r.format) (digit_below r.inhibit_increment) (digit_below r.search_complete) (digit_below hard) (digit_below any) sum in
     record {
-      go = ap (λ (n : ℕ). n == 1) d.go;
+      zeros = (d.go, d.b9, d.b12);
       function = d.function;
       extension = d.extension;
       enable = digit_is r.enable _ d.b6;
       ready = digit_is (is_ready r) _ d.b7;
       stop_on_soft_error = digit_is r.stop_on_soft_error _ d.b8;
-      bit_9 = ap (λ (n : ℕ). n == 1) d.b9;
       format = digit_is r.format _ d.b10;
       inhibit_increment = digit_is r.inhibit_increment _ d.b11;
-      bit_12 = ap (λ (n : ℕ). n == 1) d.b12;
       search_complete = digit_is r.search_complete _ d.b13;
       hard_error = digit_is hard _ d.b14;
       error = digit_is any _ d.b15;

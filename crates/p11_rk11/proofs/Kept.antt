@@ -12,12 +12,15 @@ use Rattle.p11_rk11.specs.declared.registers.Registers.{Registers}
 use Rattle.p11_rk11.specs.Acts.{addresses, sector_words, stores_of, is_refused, memory_after_sector, after_sector, after_sector_on, disk_after_due_sector, disk_after_transfer, disk_after_turn}
 use Rattle.p11_rk11.specs.Drives.{MountedDrive}
 use Rattle.p11_rk11.specs.Functions.{uses_memory, is_read}
-use Rattle.p11_rk11.specs.Laws.{IsNoneOf}
 use Rattle.p11_rk11.specs.Memory.{Words, has_word, word_at, stored, all_stored, all_held}
 use Rattle.p11_rk11.specs.Place.{is_on_disk}
 use Rattle.p11_rk11.specs.Registers.{is_due, words_moved}
 use Rattle.p11_rk11.specs.State.{Rk11State, selected}
 use Rattle.p11_rk11.proofs.Words.{accepted, both_hold, held_at}
+
+-- an address is not in a list
+abbrev pub IsNoneOf : ℕ → List ℕ → Type 0
+IsNoneOf address list = (k : ℕ) → k < length list → slice_index list k ≢ address
 
 length-all_stored : (address : ℕ → ℕ) (list : List ℕ) (n : ℕ) (words : Words) → length (all_stored address list n words) ≡ length words
 unfolding all_stored stored

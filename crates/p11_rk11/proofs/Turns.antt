@@ -10,9 +10,8 @@ use Rattle.p11_rk11.specs.Acts.{disk_after_turn, disk_after_transfer, disk_after
 use Rattle.p11_rk11.specs.Drives.{MountedDrive}
 use Rattle.p11_rk11.specs.Memory.{Words}
 use Rattle.p11_rk11.specs.Place.{is_on_disk}
-use Rattle.p11_rk11.specs.DueTurns.{IsBefore, IsNotAfter}
 use Rattle.p11_rk11.specs.Registers.{is_due, ended, failed, requested, registers_after_sector, next_sector_or_end}
-use Rattle.p11_rk11.specs.State.{Rk11State, drive_count, drive_of, with_drive, with_registers_and_drive, selected, seek_turn, seek_due, earlier, due_among, disk_due}
+use Rattle.p11_rk11.specs.State.{Rk11State, drive_count, drive_of, with_drive, with_registers_and_drive, selected, seek_turn, seek_due, earlier, due_among, disk_due, IsBefore, IsNotAfter}
 
 -- a turn before the earlier of two due turns is before both
 before_both : (turn : ℕ) (a b : Option ℕ) → IsBefore turn (earlier a b) → IsBefore turn a × IsBefore turn b

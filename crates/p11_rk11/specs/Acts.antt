@@ -52,8 +52,7 @@ differs WriteCheck r contents memory =
     not (pointwise nat_eq (words_from (addresses r) (words_moved r) memory) (take (words_moved r) (sector_words r contents)))
 differs _ r contents memory = false
 
--- One sector: where an address isn't memory, nothing moves, no counter does, and the function ends with
--- no memory.
+-- One sector: where an address isn't memory, nothing moves, no counter does, and the function ends with no memory.
 unfoldable pub after_sector : ℕ → Registers → MountedDrive → Words → Registers × MountedDrive × Words
 after_sector turn r drive memory =
     if is_refused r memory then (failed NoMemory r, drive, memory)
@@ -102,8 +101,7 @@ drive_after_arrival drive = drive_after_seek drive.seek drive
 unfoldable pub registers_after_seek : ℕ → Registers → Registers
 registers_after_seek n r = requested (record r { search_complete = true; finished_seek = n })
 
--- A seek that is due: the heads are there, RKCS 13 is set, RKDS 15:13 is the drive, and there is a
--- request.
+-- A seek that is due: the heads are there, RKCS 13 is set, RKDS 15:13 is the drive, and there is a request.
 abbrev pub after_seek_on : ℕ → ℕ → Registers → Option MountedDrive → Registers × Option MountedDrive
 after_seek_on turn n r None = (r, None)
 after_seek_on turn n r (Some drive) =

@@ -1,7 +1,6 @@
 pub mod Acts
 pub mod Address
 pub mod Drives
-pub mod DueTurns
 pub mod Errors
 pub mod Functions
 pub mod Laws

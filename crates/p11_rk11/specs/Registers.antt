@@ -115,9 +115,8 @@ counters_advanced r =
 unfoldable pub with_difference : Bool → Registers → Registers
 with_difference differs r = if differs then record r { errors = record r.errors { write_check = true } } else r
 
--- What follows a moved sector: the function ends where no words were left behind it, else where words
--- differed and RKCS 8 stops on that, else with overrun where RKDA is past the last cylinder; else the
--- next sector is due 32 turns later.
+-- What follows a moved sector: the function ends where no words were left behind it, else where words differed and RKCS
+-- 8 stops on that, else with overrun where RKDA is past the last cylinder; else the next sector is due 32 turns later.
 unfoldable pub next_sector_or_end : ℕ → Bool → Bool → Registers → Registers
 next_sector_or_end turn was_last differs r =
     if was_last then ended r

@@ -4,7 +4,7 @@ use Rattle.std.specs.Int.{abs_diff}
 use Rattle.p11_rk11.specs.declared.errors.Failure.{Failure}
 use Rattle.p11_rk11.specs.declared.errors.Failure.TheVariants.{NoSector, NoCylinder, NoDisk, Programming, WriteLockout, DriveError}
 use Rattle.p11_rk11.specs.declared.function.Function.{Function}
-use Rattle.p11_rk11.specs.declared.function.Function.TheVariants.{Write, Read, WriteCheck, Seek, ReadCheck, DriveReset, WriteLock}
+use Rattle.p11_rk11.specs.declared.function.Function.TheVariants.{ControlReset, Seek, DriveReset, WriteLock}
 use Rattle.p11_rk11.specs.declared.register.Register.{Register}
 use Rattle.p11_rk11.specs.declared.register.Register.TheVariants as register
 use Rattle.p11_rk11.specs.declared.registers.Registers.{Registers}
@@ -32,29 +32,22 @@ arrival turn cylinder drive = turn + 16 + abs_diff cylinder drive.cylinder
 unfoldable pub seeking : ℕ → ℕ → MountedDrive → MountedDrive
 seeking turn cylinder drive = record drive { seek = Some (record { due = arrival turn cylinder drive; cylinder = cylinder }) }
 
-unfoldable pub locked : MountedDrive → MountedDrive
-locked drive = record drive { contents = record drive.contents { protected = true } }
-
 -- What a function makes of its drive when it begins: 4 sends the heads to RKDA's cylinder, 6 to
 -- cylinder 0, and 7 protects the drive.
 unfoldable pub drive_after_begin : ℕ → Place → Function → MountedDrive → MountedDrive
 drive_after_begin turn place Seek drive = seeking turn place.cylinder drive
 drive_after_begin turn place DriveReset drive = seeking turn 0 drive
-drive_after_begin turn place WriteLock drive = locked drive
+drive_after_begin turn place WriteLock drive = record drive { contents = record drive.contents { protected = true } }
 drive_after_begin turn place _ drive = drive
 
--- a transfer clears ready: its first sector is due when the heads have come to RKDA's cylinder and 32
--- turns more have passed
-unfoldable pub transferring : ℕ → MountedDrive → Registers → Registers
-transferring turn drive r = record r { transfer = Some (arrival turn r.disk_address.cylinder drive + 32) }
-
--- And of the registers: 1, 2, 3 and 5 are transfers, the others end at once.
+-- And of the registers: 4, 6 and 7 end at once. The others are transfers, which clear ready: the first sector is due when
+-- the heads have come to RKDA's cylinder and 32 turns more have passed. (A control reset begins nothing.)
 unfoldable pub registers_after_begin : ℕ → Function → MountedDrive → Registers → Registers
-registers_after_begin turn Write drive r = transferring turn drive r
-registers_after_begin turn Read drive r = transferring turn drive r
-registers_after_begin turn WriteCheck drive r = transferring turn drive r
-registers_after_begin turn ReadCheck drive r = transferring turn drive r
-registers_after_begin turn _ drive r = ended r
+registers_after_begin turn ControlReset drive r = r
+registers_after_begin turn Seek drive r = ended r
+registers_after_begin turn DriveReset drive r = ended r
+registers_after_begin turn WriteLock drive r = ended r
+registers_after_begin turn _ drive r = record r { transfer = Some (arrival turn r.disk_address.cylinder drive + 32) }
 
 -- a function after the checks of its drive: the first that holds ends it at once
 abbrev pub after_check : ℕ → Registers → MountedDrive → Option Failure → Registers × MountedDrive

@@ -9,7 +9,7 @@ ghost use Rattle.p11_rk11.specs.State.{new_disk, disk_word, drive_of, selected, 
 ghost use Rattle.p11_rk11.specs.Registers.{is_due};
 
 use crate::bay;
-use crate::errors::Failure;
+use crate::errors::{Failure, bit};
 use crate::memory::WordMemory;
 use crate::mounted::Mounted;
 use crate::register::Register;
@@ -144,7 +144,7 @@ impl<A: Allocator> Rk11<A> {
             return;
         }
         self.registers.take_control(word);
-        if word & 1 == 1 {
+        if bit(word, 0) {
             self.go(turn);
         } else if rises {
             self.registers.raise_request();

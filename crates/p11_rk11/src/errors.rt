@@ -1,5 +1,6 @@
-ghost use Rattle.std.specs.Prelude.{◌≡◌, ◌≤◌, ◌<◌};
+ghost use Rattle.std.specs.Prelude.{◌≡◌, ◌≤◌, ◌<◌, ◌^◌};
 ghost use Rattle.p11_rk11.specs.Errors.{flag, error_word, with_failure};
+ghost use Rattle.p11_rk11.specs.Registers.{bit_of};
 
 /// The bits of RKER.
 #[derive(Clone, Copy, Debug, PartialEq, Eq)]
@@ -28,12 +29,20 @@ pub enum Failure {
     DriveError,
 }
 
-/// A bit of a register's word.
+/// A flag as a number: its weight or 0.
 pub(crate) fn flag(is_set: bool, weight: u16) -> u16
     ensures value { result ≡ flag is_set weight }
     ensures bound { result ≤ weight }
 {
     if is_set { weight } else { 0 }
+}
+
+/// Whether the word's bit at this place, whose weight is a power of 2, is set.
+pub(crate) fn bit(word: u16, place: u32) -> bool
+    requires { place < 16 }
+    ensures { result ≡ bit_of word (2 ^ place) }
+{
+    word >> place & 1 == 1
 }
 
 impl Errors {

@@ -1,15 +1,14 @@
 //! What the definitions of the controller say together, in every state: each is a function that does nothing.
-ghost use Rattle.std.specs.Prelude.{◌≡◌, ℕ, ◌+◌, ◌<◌, ◌≤◌, true, false, List, [], length, All};
+ghost use Rattle.std.specs.Prelude.{◌≡◌, ◌≢◌, ℕ, ◌+◌, ◌<◌, ◌≤◌, true, false, List, [], length, slice_index, All};
 ghost use Rattle.p11_overlay.specs.Drive.{Contents};
 ghost use Rattle.p11_rk11.specs.declared.registers.Registers.{Registers};
 ghost use Rattle.p11_rk11.specs.Acts.{disk_after_turn, stores_of};
-ghost use Rattle.p11_rk11.specs.DueTurns.{IsBefore, IsNotAfter};
 ghost use Rattle.p11_rk11.specs.Functions.{is_read};
-ghost use Rattle.p11_rk11.specs.Laws.{IsNoneOf, ShowsItsBits};
+ghost use Rattle.p11_rk11.specs.Laws.{ShowsItsBits};
 ghost use Rattle.p11_rk11.specs.Memory.{Words, has_word, word_at};
 ghost use Rattle.p11_rk11.specs.Place.{Place, is_on_disk, sector_number, place_of_number, next_place};
 ghost use Rattle.p11_rk11.specs.Sector.{bytes_of_words, words_of_sector};
-ghost use Rattle.p11_rk11.specs.State.{Rk11State, drive_count, disk_after_init, disk_due};
+ghost use Rattle.p11_rk11.specs.State.{Rk11State, drive_count, disk_after_init, disk_due, IsBefore, IsNotAfter};
 
 use crate::controller::DRIVES;
 
@@ -23,8 +22,8 @@ pub fn init_twice_is_init_once()
     ensures { (s : Rk11State) → disk_after_init (disk_after_init s) ≡ disk_after_init s }
 {}
 
-/// The acts of a turn that comes before every due turn change nothing. So due turns stay until one of them comes, unless
-/// something else happens.
+/// The acts of a turn that comes before every due turn change nothing. So due turns stay until one of them comes,
+/// unless something else happens.
 pub fn nothing_happens_before_due()
     ensures { (s : Rk11State) (memory : Words) (turn : ℕ) → IsBefore turn (disk_due s) → disk_after_turn turn s memory
         ≡ (s, memory) }
@@ -45,7 +44,7 @@ pub fn memory_stays()
 /// The acts of a turn change at most 256 words, those of a due read's sector: every other word of memory stays.
 pub fn words_that_stay()
     ensures others { (s : Rk11State) (memory : Words) (turn address : ℕ) → has_word memory address ≡ true
-        → IsNoneOf address (stores_of turn s)
+        → ((k : ℕ) → k < length (stores_of turn s) → slice_index (stores_of turn s) k ≢ address)
         → word_at (disk_after_turn turn s memory).1 address ≡ word_at memory address }
     ensures count { (s : Rk11State) (turn : ℕ) → length (stores_of turn s) ≤ 256 }
     ensures reads { (s : Rk11State) (turn : ℕ) → is_read s.registers.function ≡ false → stores_of turn s ≡ [] }

@@ -7,8 +7,8 @@ ghost use Rattle.p11_rk11.specs.Functions.{is_write, uses_memory, uses_place};
 ghost use Rattle.p11_rk11.specs.Memory.{all_held};
 ghost use Rattle.p11_rk11.specs.Registers.{words_moved};
 ghost use Rattle.p11_rk11.specs.Place.{is_on_disk, sector_number};
-ghost use Rattle.p11_rk11.specs.Starts.{drive_check, seeking, locked, drive_after_begin, registers_after_begin, after_start, arrival};
-ghost use Rattle.p11_rk11.specs.State.{drive_status, seek_turn, heads_of, drive_after_mount};
+ghost use Rattle.p11_rk11.specs.Starts.{drive_check, seeking, drive_after_begin, registers_after_begin, after_start, arrival};
+ghost use Rattle.p11_rk11.specs.State.{drive_status, seek_turn, heads_at, drive_after_mount};
 
 use crate::controller::Heads;
 use crate::errors::{Failure, flag};
@@ -81,9 +81,8 @@ impl<A: Allocator> Mounted<A> {
         }
     }
 
-    #[tactic(auto, unfolding(crate::specs::State::heads_of))]
     pub(crate) fn heads(&self) -> Heads
-        ensures { result ≡ heads_of self.now.visible }
+        ensures { Some result ≡ heads_at (Some self.now.visible) }
     {
         Heads {
             cylinder: self.cylinder.number(),
@@ -148,7 +147,7 @@ impl<A: Allocator> Mounted<A> {
     }
 
     /// Begins a function whose checks have passed.
-    #[tactic(auto, unfolding(crate::specs::Functions::uses_place, crate::specs::Starts::drive_after_begin, crate::specs::Starts::registers_after_begin, crate::specs::Starts::locked, crate::specs::Starts::transferring))]
+    #[tactic(auto, unfolding(crate::specs::Functions::uses_place, crate::specs::Starts::drive_after_begin, crate::specs::Starts::registers_after_begin))]
     pub(crate) fn begin(&mut self, turn: u64, registers: &mut Registers)
         requires turn { turn ≤ 2 ^ 62 }
         requires place { uses_place registers.old.function ≡ true → is_on_disk registers.old.disk_address ≡ true }
@@ -175,7 +174,7 @@ impl<A: Allocator> Mounted<A> {
                 self.drive.protect();
                 registers.end();
             }
-            Function::ControlReset => registers.end(),
+            Function::ControlReset => {}
         }
     }
 

@@ -6,7 +6,7 @@ ghost use Rattle.p11_rk11.specs.Starts.{registers_cleared_by_go, registers_with_
 ghost use Rattle.p11_rk11.specs.Registers.{is_due, cleared_registers, control_word, low_bits, high_bits, with_enable, enable_rises, with_control, words_left, words_moved, ended, failed, requested, counters_advanced, with_difference, next_sector_or_end, registers_after_sector, is_ready};
 
 use crate::address::BusAddress;
-use crate::errors::{Errors, Failure, flag};
+use crate::errors::{Errors, Failure, bit, flag};
 use crate::function::Function;
 use crate::place::{DiskAddress, DriveNumber};
 use crate::register::Register;
@@ -85,7 +85,7 @@ impl Registers {
         ensures rises { result ≡ enable_rises word self.old }
     {
         let was_enabled = self.enable;
-        let is_enabled = word >> 6 & 1 == 1;
+        let is_enabled = bit(word, 6);
         self.enable = is_enabled;
         if is_enabled {
             !was_enabled
@@ -102,9 +102,9 @@ impl Registers {
     {
         self.function = Function::from_number(word >> 1 & 7);
         self.bus_address = self.bus_address.with_extension(word >> 4 & 3);
-        self.stop_on_soft_error = word >> 8 & 1 == 1;
-        self.format = word >> 10 & 1 == 1;
-        self.inhibit_increment = word >> 11 & 1 == 1;
+        self.stop_on_soft_error = bit(word, 8);
+        self.format = bit(word, 10);
+        self.inhibit_increment = bit(word, 11);
     }
 
     /// Writes RKWC, RKBA or RKDA. RKBA has no bit 0.

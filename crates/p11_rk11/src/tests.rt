@@ -9,7 +9,7 @@ use std::test::Fail;
 
 /// Words from address 0 on.
 #[derive(Drop)]
-struct Ram {
+pub(crate) struct Ram {
     words: Vec<u16>,
 }
 
@@ -38,7 +38,7 @@ impl WordMemory for Ram {
 }
 
 /// So many thousand words of zeros.
-fn make_ram(alloc: Global, kwords: usize) -> Result<Ram, AllocError>
+pub(crate) fn make_ram(alloc: Global, kwords: usize) -> Result<Ram, AllocError>
     requires { kwords ≤ 124 }
 {
     let words = vec![in alloc; 0u16; kwords * 1024]?;
@@ -46,7 +46,7 @@ fn make_ram(alloc: Global, kwords: usize) -> Result<Ram, AllocError>
 }
 
 /// Mounts a pack on an empty drive.
-fn mount(
+pub(crate) fn mount(
     rt: &impl Abort,
     alloc: Global,
     disk: &mut Rk11,
@@ -62,7 +62,12 @@ fn mount(
 }
 
 /// The acts of a number of turns after a turn.
-fn pass(disk: &mut Rk11, memory: &mut Ram, after: u64, turns: u64) -> Result<(), AllocError>
+pub(crate) fn pass(
+    disk: &mut Rk11,
+    memory: &mut Ram,
+    after: u64,
+    turns: u64,
+) -> Result<(), AllocError>
     requires { after + turns ≤ 10000 }
 {
     for turn in after + 1..after + turns + 1 {
@@ -73,12 +78,12 @@ fn pass(disk: &mut Rk11, memory: &mut Ram, after: u64, turns: u64) -> Result<(),
 }
 
 /// Stops the test unless a register shows a word in a turn.
-fn expect(rt: &impl Abort, disk: &Rk11, turn: u64, register: Register, word: u16) {
+pub(crate) fn expect(rt: &impl Abort, disk: &Rk11, turn: u64, register: Register, word: u16) {
     assert_eq!(rt; disk.read(turn, register), word);
 }
 
 /// Stops the test unless these sectors of drive 0 were written.
-fn expect_changed(rt: &impl Abort, disk: &Rk11, numbers: &[u16]) {
+pub(crate) fn expect_changed(rt: &impl Abort, disk: &Rk11, numbers: &[u16]) {
     match disk.drive(0) {
         Some(drive) => assert_eq!(rt; drive.changed(), numbers),
         None => assert!(rt; false, "no pack on drive 0"),
@@ -86,7 +91,7 @@ fn expect_changed(rt: &impl Abort, disk: &Rk11, numbers: &[u16]) {
 }
 
 /// Stops the test unless a sector of drive 0 begins with these bytes and has zeros behind them.
-fn expect_sector(rt: &impl Abort, disk: &Rk11, n: u16, front: &[u8])
+pub(crate) fn expect_sector(rt: &impl Abort, disk: &Rk11, n: u16, front: &[u8])
     requires { n < 4872 }
 {
     match disk.drive(0) {
@@ -101,13 +106,13 @@ fn expect_sector(rt: &impl Abort, disk: &Rk11, n: u16, front: &[u8])
 }
 
 /// Sets a word of memory.
-fn set_word(rt: &impl Abort, memory: &mut Ram, address: usize, word: u16) {
+pub(crate) fn set_word(rt: &impl Abort, memory: &mut Ram, address: usize, word: u16) {
     assert!(rt; address / 2 < memory.words.len());
     memory.words[address / 2] = word;
 }
 
 /// Stops the test unless an address of memory has a word.
-fn expect_word(rt: &impl Abort, memory: &Ram, address: usize, word: u16) {
+pub(crate) fn expect_word(rt: &impl Abort, memory: &Ram, address: usize, word: u16) {
     assert_eq!(rt; memory.words.get(address / 2).copied(), Some(word));
 }
 

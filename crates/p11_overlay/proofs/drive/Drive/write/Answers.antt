@@ -1,5 +1,5 @@
 use Rattle.std.proofs.Common.{arith, ◌≡◌, length}
-use Rattle.p11_overlay.specs.Geometry.{sector_bytes}
+use Rattle.p11_overlay.specs.Drive.{sector_bytes}
 use Rattle.p11_overlay.proofs.Changed.{length_changed_new, whole_written}
 use Rattle.p11_overlay.proofs.drive.Drive.write.Goals as goal
 
