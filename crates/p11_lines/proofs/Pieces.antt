@@ -1,18 +1,13 @@
 -- What has been written so far, and what is left.
 use Rattle.std.proofs.Common.{◌≡◌, ◌≤◌, ◌-◌, ◌+◌, ◌*◌, ◌%◌, ◌<◌, get_or, add-one, drop-cons, arith, ℕ, List, [], ◌++◌, length, take, drop, Option, Some, None, refl, sym, ap, subst, ◌∙◌, append_assoc, append-nil, take-append-drop}
-use Rattle.std.proofs.lemmas.List.{nil_from_length, take_all, drop_all, length-drop}
+use Rattle.std.proofs.lemmas.List.{nil_from_length, take_all, drop_all, length-drop, length-append}
 use Rattle.std.specs.Io.KnownBytes.{Appends, Keeps}
 use Rattle.std.proofs.KnownBytes.{Appends-nil, Appends-trans}
 use Rattle.std.specs.List.{flat_map}
-use Rattle.std.specs.Prelude.{Result, Ok, Err, OnOk, OnErr}
+use Rattle.std.specs.Prelude.{Result, Ok, Err, OnOk, OnErr, false}
+use Rattle.std.specs.Result.{is_ok}
 use Rattle.p11_lines.specs.AnswerText.{six_octals, exam_text, exam_texts}
-use Rattle.p11_lines.specs.Written.{AppendsFront}
-
--- a front of the text is written, and the rest is left
-pub record Wrote (old new : Option (List ℕ)) (text rest : List ℕ) : Type 0 where
-  pub front : List ℕ
-  pub written : Appends old new front
-  pub split : text ≡ front ++ rest
+use Rattle.p11_lines.specs.Written.{Wrote, AppendsFront}
 
 pub Wrote-none : (a : Option (List ℕ)) (text : List ℕ) → Wrote a a text text
 Wrote-none a text = record { front = []; written = Appends-nil a; split = refl }
@@ -31,9 +26,10 @@ Appends-kept (Some x) None c front p q = absurd p
 Appends-kept (Some x) (Some y) None front p q = absurd q
 Appends-kept (Some x) (Some y) (Some z) front p q = q ∙ p
 
--- nothing more
-pub AppendsFront-wrote : (a b c : Option (List ℕ)) (text rest : List ℕ) → Wrote a b text rest → Keeps b c → AppendsFront a c text
-AppendsFront-wrote a b c text rest so_far kept = record { front = so_far.front; back = rest; written = Appends-kept a b c so_far.front so_far.written kept; split = so_far.split }
+-- nothing more, and something is left
+pub AppendsFront-wrote : (a b c : Option (List ℕ)) (text rest : List ℕ) → Wrote a b text rest → Keeps b c → 0 < length rest → AppendsFront a c text
+AppendsFront-wrote a b c text rest so_far kept more =
+    record { front = so_far.front; back = rest; written = Appends-kept a b c so_far.front so_far.written kept; split = so_far.split; unwritten = more }
 
 -- no rest is left
 pub Appends-wrote : (a b : Option (List ℕ)) (text rest : List ℕ) → Wrote a b text rest → length rest ≡ 0 → Appends a b text
@@ -48,37 +44,93 @@ Wrote-slice a b c text rest n len so_far more e =
     let whole : take len (drop n rest) ≡ drop n rest = take_all len (drop n rest) (omega (arith, length-drop n rest)) in
     subst (λ (t : List ℕ). Wrote a c text t) (sym whole) (Wrote-more a b c text rest n so_far more)
 
--- one piece of the rest more
-pub Wrote-piece : (a b c : Option (List ℕ)) (text rest piece more : List ℕ) → Wrote a b text rest → rest ≡ piece ++ more → Appends b c piece → Wrote a c text more
-Wrote-piece a b c text rest piece more so_far rest_is now_is = record {
-  front = so_far.front ++ piece;
-  written = Appends-trans a b c so_far.front piece so_far.written now_is;
-  split = so_far.split ∙ ap (λ (t : List ℕ). so_far.front ++ t) rest_is ∙ sym (append_assoc so_far.front piece more);
+-- a piece is kept too
+pub Wrote-kept : (a : Option (List ℕ)) (kept piece all : List ℕ) → all ≡ kept ++ piece → Wrote a a (kept ++ piece) all
+Wrote-kept a kept piece all all_is = record { front = []; written = Appends-nil a; split = sym all_is }
+
+-- what was kept is written, and a piece is kept
+pub Wrote-emptied : (a b : Option (List ℕ)) (kept piece none all : List ℕ) → Appends a b kept → none ≡ [] → all ≡ none ++ piece → Wrote a b (kept ++ piece) all
+Wrote-emptied a b kept piece none all done none_is all_is = record {
+  front = kept;
+  written = done;
+  split = ap (λ (t : List ℕ). kept ++ t) (sym (all_is ∙ ap (λ (t : List ℕ). t ++ piece) none_is));
 }
 
--- a front of one piece of the rest
-pub AppendsFront-piece : (a b c : Option (List ℕ)) (text rest piece more : List ℕ) → Wrote a b text rest → rest ≡ piece ++ more → AppendsFront b c piece → AppendsFront a c text
-AppendsFront-piece a b c text rest piece more so_far rest_is now_is = record {
+-- what was kept is written, and then a piece
+pub Wrote-through : (a b c : Option (List ℕ)) (kept piece none : List ℕ) → Appends a b kept → none ≡ [] → Appends b c piece → Wrote a c (kept ++ piece) none
+Wrote-through a b c kept piece none done none_is more = record {
+  front = kept ++ piece;
+  written = Appends-trans a b c kept piece done more;
+  split = sym (ap (λ (t : List ℕ). (kept ++ piece) ++ t) none_is ∙ append-nil (kept ++ piece));
+}
+
+-- nothing is left
+pub Wrote-whole : (a b : Option (List ℕ)) (text rest none : List ℕ) → Wrote a b text rest → rest ≡ none → Wrote a b text none
+Wrote-whole a b text rest none so_far e = subst (λ (t : List ℕ). Wrote a b text t) e so_far
+
+-- of the text that was left
+pub Wrote-trans : (a b c : Option (List ℕ)) (text rest kept : List ℕ) → Wrote a b text rest → Wrote b c rest kept → Wrote a c text kept
+Wrote-trans a b c text rest kept so_far now_is = record {
   front = so_far.front ++ now_is.front;
-  back = now_is.back ++ more;
   written = Appends-trans a b c so_far.front now_is.front so_far.written now_is.written;
-  split = so_far.split ∙ ap (λ (t : List ℕ). so_far.front ++ t) (rest_is ∙ ap (λ (t : List ℕ). t ++ more) now_is.split ∙ append_assoc now_is.front now_is.back more)
-      ∙ sym (append_assoc so_far.front now_is.front (now_is.back ++ more));
+  split = so_far.split ∙ ap (λ (t : List ℕ). so_far.front ++ t) now_is.split ∙ sym (append_assoc so_far.front now_is.front kept);
 }
 
--- one text after another
-pub AppendsFront_after : (a b c : Option (List ℕ)) (first second : List ℕ) → Appends a b first → AppendsFront b c second → AppendsFront a c (first ++ second)
-AppendsFront_after a b c first second done now_is =
-    AppendsFront-piece a b c (first ++ second) second second [] (record { front = first; written = done; split = refl }) (sym (append-nil second)) now_is
+pub AppendsFront-trans : (a b c : Option (List ℕ)) (text rest : List ℕ) → Wrote a b text rest → AppendsFront b c rest → AppendsFront a c text
+AppendsFront-trans a b c text rest so_far now_is = record {
+  front = so_far.front ++ now_is.front;
+  back = now_is.back;
+  written = Appends-trans a b c so_far.front now_is.front so_far.written now_is.written;
+  split = so_far.split ∙ ap (λ (t : List ℕ). so_far.front ++ t) now_is.split ∙ sym (append_assoc so_far.front now_is.front now_is.back);
+  unwritten = now_is.unwritten;
+}
 
 -- a longer text
-pub AppendsFront_wider : (a b : Option (List ℕ)) (first second : List ℕ) → AppendsFront a b first → AppendsFront a b (first ++ second)
-AppendsFront_wider a b first second now_is = record {
-  front = now_is.front;
-  back = now_is.back ++ second;
-  written = now_is.written;
-  split = ap (λ (t : List ℕ). t ++ second) now_is.split ∙ append_assoc now_is.front now_is.back second;
+pub Wrote-wider : (a b : Option (List ℕ)) (text kept more : List ℕ) → Wrote a b text kept → Wrote a b (text ++ more) (kept ++ more)
+Wrote-wider a b text kept more so_far = record {
+  front = so_far.front;
+  written = so_far.written;
+  split = ap (λ (t : List ℕ). t ++ more) so_far.split ∙ append_assoc so_far.front kept more;
 }
+
+pub AppendsFront_wider : (a b : Option (List ℕ)) (text more : List ℕ) → AppendsFront a b text → AppendsFront a b (text ++ more)
+AppendsFront_wider a b text more now_is = record {
+  front = now_is.front;
+  back = now_is.back ++ more;
+  written = now_is.written;
+  split = ap (λ (t : List ℕ). t ++ more) now_is.split ∙ append_assoc now_is.front now_is.back more;
+  unwritten = omega (arith, now_is.unwritten, length-append now_is.back more);
+}
+
+-- one piece more of the text that is left behind what is kept
+piece_in_front : (kept rest piece more : List ℕ) → rest ≡ piece ++ more → kept ++ rest ≡ (kept ++ piece) ++ more
+piece_in_front kept rest piece more rest_is = ap (λ (t : List ℕ). kept ++ t) rest_is ∙ sym (append_assoc kept piece more)
+
+pub Wrote-piece : (a b c : Option (List ℕ)) (text kept rest piece more now_kept : List ℕ) → Wrote a b text (kept ++ rest) → rest ≡ piece ++ more → Wrote b c (kept ++ piece) now_kept → Wrote a c text (now_kept ++ more)
+Wrote-piece a b c text kept rest piece more now_kept so_far rest_is now_is =
+    Wrote-trans a b c text (kept ++ rest) (now_kept ++ more) so_far
+    (subst (λ (t : List ℕ). Wrote b c t (now_kept ++ more)) (sym (piece_in_front kept rest piece more rest_is)) (Wrote-wider b c (kept ++ piece) now_kept more now_is))
+
+-- a front of that piece
+pub AppendsFront-piece : (a b c : Option (List ℕ)) (text kept rest piece more : List ℕ) → Wrote a b text (kept ++ rest) → rest ≡ piece ++ more → AppendsFront b c (kept ++ piece) → AppendsFront a c text
+AppendsFront-piece a b c text kept rest piece more so_far rest_is now_is =
+    AppendsFront-trans a b c text (kept ++ rest) so_far
+    (subst (λ (t : List ℕ). AppendsFront b c t) (sym (piece_in_front kept rest piece more rest_is)) (AppendsFront_wider b c (kept ++ piece) more now_is))
+
+-- what was kept is written, and a front of a piece
+pub AppendsFront_after : (a b c : Option (List ℕ)) (kept piece : List ℕ) → Appends a b kept → AppendsFront b c piece → AppendsFront a c (kept ++ piece)
+AppendsFront_after a b c kept piece done now_is =
+    AppendsFront-trans a b c (kept ++ piece) piece (record { front = kept; written = done; split = refl }) now_is
+
+-- all that was kept is written
+pub Appends-kept-all : (a b c : Option (List ℕ)) (text kept : List ℕ) → Wrote a b text kept → Appends b c kept → Appends a c text
+Appends-kept-all a b c text kept so_far done =
+    subst (λ (t : List ℕ). Appends a c t) (sym so_far.split) (Appends-trans a b c so_far.front kept so_far.written done)
+
+-- no text is left behind what is kept
+pub Wrote-end : (a b : Option (List ℕ)) (text kept rest : List ℕ) → Wrote a b text (kept ++ rest) → rest ≡ [] → Wrote a b text kept
+Wrote-end a b text kept rest so_far none =
+    subst (λ (t : List ℕ). Wrote a b text t) (ap (λ (t : List ℕ). kept ++ t) none ∙ append-nil kept) so_far
 
 -- the pieces from i on begin with the one at i
 pub flat_map_drop : {X : Type 0} (f : X → List ℕ) (xs : List X) (i : ℕ) (d : X) → i < length xs → flat_map f (drop i xs) ≡ f (get_or xs i d) ++ flat_map f (drop (i + 1) xs)
@@ -89,6 +141,14 @@ unfolding exam_texts
 exam_texts_drop address words i short =
     let next : address + 2 * i + 2 ≡ address + 2 * (i + 1) = omega arith in
     rw (drop-cons words i 0 short, next, add-one) refl
+
+-- past the last of them none is left
+pub flat_map_past : {X : Type 0} (f : X → List ℕ) (xs : List X) (i : ℕ) → length xs ≤ i → flat_map f (drop i xs) ≡ []
+flat_map_past f xs i past = rw (drop_all i xs past) refl
+
+pub exam_texts_past : (address : ℕ) (words : List ℕ) (i : ℕ) → length words ≤ i → exam_texts address (drop i words) ≡ []
+unfolding exam_texts
+exam_texts_past address words i past = rw (drop_all i words past) refl
 
 -- the low 18 bits are those of the low 32
 pub six_octals_low : (address low : ℕ) → low ≡ address % 4294967296 → six_octals low ≡ six_octals address
@@ -103,10 +163,10 @@ OnErr-always (Err e) p = p
 pub exam_text_low : (address low word : ℕ) → low ≡ address % 4294967296 → exam_text low word ≡ exam_text address word
 exam_text_low address low word same = rw (six_octals_low address low same) refl
 
--- past the last word no line is left
-pub length-exam_texts-past : (address : ℕ) (words : List ℕ) (i : ℕ) → length words ≤ i → length (exam_texts address (drop i words)) ≡ 0
-unfolding exam_texts
-length-exam_texts-past address words i past = rw (drop_all i words past) refl
+-- where the call didn't succeed, what its failure says holds
+pub OnErr-holds : {T E P : Type 0} (r : Result T E) → false ≡ is_ok r → OnErr r P → P
+OnErr-holds (Ok v) e p = absurd cc
+OnErr-holds (Err x) e p = p
 
 pub OnErr-map : {T E P Q : Type 0} (r : Result T E) → (P → Q) → OnErr r P → OnErr r Q
 OnErr-map (Ok v) f p = tt

@@ -1,12 +1,15 @@
 // The texts of answers, written in pieces from fixed tables.
-ghost use Rattle.std.specs.Prelude.{◌≡◌, ◌+◌, ◌≤◌, OnOk, OnErr, decimal};
+ghost use Rattle.std.specs.Prelude.{◌≡◌, ◌+◌, ◌++◌, ◌≤◌, [], OnOk, OnErr, decimal};
 ghost use Rattle.std.specs.List.{flat_map};
 ghost use Rattle.std.specs.Io.KnownBytes.{Appends};
-ghost use Rattle.p11_lines.specs.AnswerText.{text_of, six_octals, exam_text, exam_texts, stop_text, reason_text, mark_text, spaced_text, general_text, pointers_text, turn_text, registers_text, fault_text};
-ghost use Rattle.p11_lines.specs.Written.{AppendsFront};
+ghost use Rattle.p11_lines.specs.AnswerText.{text_of, six_octals, exam_text, exam_texts, stop_text, reason_text};
+ghost use Rattle.p11_lines.specs.AnswerText.{mark_text, spaced_text, general_text, pointers_text, turn_text};
+ghost use Rattle.p11_lines.specs.AnswerText.{registers_text, fault_text};
+ghost use Rattle.p11_lines.specs.Written.{Wrote, AppendsFront};
 
 use crate::answer::{Answer, Mark, Registers, StopReason};
 use crate::fault::Fault;
+use arrayvec::ArrayVec;
 use itoa::Buffer;
 use std::alloc::Allocator;
 use std::io::Write;
@@ -17,8 +20,11 @@ use thiserror::Error;
 #[error("the writer failed")]
 pub struct Broken;
 
+/// What is kept of a text until it is written.
+type Table = ArrayVec<u8, 4096>;
+
 /// Writes a piece.
-fn put<W: Write>(writer: &mut W, piece: &[u8]) -> Result<(), Broken>
+fn write_out<W: Write>(writer: &mut W, piece: &[u8]) -> Result<(), Broken>
     ensures ok { OnOk result (Appends (W.contents writer.old) (W.contents writer.new) piece.now) }
     ensures err { OnErr result (AppendsFront (W.contents writer.old) (W.contents writer.new) piece.now) }
 {
@@ -33,13 +39,43 @@ fn put<W: Write>(writer: &mut W, piece: &[u8]) -> Result<(), Broken>
     Ok(())
 }
 
-/// Writes pieces, one after the other.
-fn put_all<W: Write>(writer: &mut W, pieces: &[&[u8]]) -> Result<(), Broken>
-    ensures ok { OnOk result (Appends (W.contents writer.old) (W.contents writer.new) (flat_map (λ piece. piece.now) pieces.now)) }
-    ensures err { OnErr result (AppendsFront (W.contents writer.old) (W.contents writer.new) (flat_map (λ piece. piece.now) pieces.now)) }
+/// Writes what is kept.
+fn empty<W: Write>(writer: &mut W, table: &mut Table) -> Result<(), Broken>
+    ensures ok { OnOk result (Appends (W.contents writer.old) (W.contents writer.new) table.old.items) }
+    ensures none { OnOk result (table.new.items ≡ []) }
+    ensures err { OnErr result (AppendsFront (W.contents writer.old) (W.contents writer.new) table.old.items) }
+{
+    write_out(writer, table.as_slice())?;
+    table.clear();
+    Ok(())
+}
+
+/// Keeps a piece, and writes what was kept where there is no room for it.
+fn put<W: Write>(writer: &mut W, table: &mut Table, piece: &[u8]) -> Result<(), Broken>
+    ensures ok { OnOk result (Wrote (W.contents writer.old) (W.contents writer.new)
+        (table.old.items ++ piece.now) table.new.items) }
+    ensures err { OnErr result (AppendsFront (W.contents writer.old) (W.contents writer.new)
+        (table.old.items ++ piece.now)) }
+{
+    if table.try_extend_from_slice(piece).is_ok() {
+        return Ok(());
+    }
+    empty(writer, table)?;
+    if table.try_extend_from_slice(piece).is_ok() {
+        return Ok(());
+    }
+    write_out(writer, piece)
+}
+
+/// Puts pieces, one after the other.
+fn put_all<W: Write>(writer: &mut W, table: &mut Table, pieces: &[&[u8]]) -> Result<(), Broken>
+    ensures ok { OnOk result (Wrote (W.contents writer.old) (W.contents writer.new)
+        (table.old.items ++ flat_map (λ piece. piece.now) pieces.now) table.new.items) }
+    ensures err { OnErr result (AppendsFront (W.contents writer.old) (W.contents writer.new)
+        (table.old.items ++ flat_map (λ piece. piece.now) pieces.now)) }
 {
     for piece in pieces {
-        put(writer, piece)?;
+        put(writer, table, piece)?;
     }
     Ok(())
 }
@@ -67,13 +103,21 @@ fn octal(number: u32) -> [u8; 6]
     ]
 }
 
-/// Writes the line of one word.
-fn put_word<W: Write>(writer: &mut W, address: u32, word: u16) -> Result<(), Broken>
-    ensures ok { OnOk result (Appends (W.contents writer.old) (W.contents writer.new) (exam_text address word)) }
-    ensures err { OnErr result (AppendsFront (W.contents writer.old) (W.contents writer.new) (exam_text address word)) }
+/// Puts the line of one word.
+fn put_word<W: Write>(
+    writer: &mut W,
+    table: &mut Table,
+    address: u32,
+    word: u16,
+) -> Result<(), Broken>
+    ensures ok { OnOk result (Wrote (W.contents writer.old) (W.contents writer.new)
+        (table.old.items ++ exam_text address word) table.new.items) }
+    ensures err { OnErr result (AppendsFront (W.contents writer.old) (W.contents writer.new)
+        (table.old.items ++ exam_text address word)) }
 {
     put_all(
         writer,
+        table,
         &[
             b"EXAM ",
             &octal(address),
@@ -84,14 +128,21 @@ fn put_word<W: Write>(writer: &mut W, address: u32, word: u16) -> Result<(), Bro
     )
 }
 
-/// Writes a line for each word.
-fn put_words<W: Write>(writer: &mut W, address: u32, words: &[u16]) -> Result<(), Broken>
-    ensures ok { OnOk result (Appends (W.contents writer.old) (W.contents writer.new) (exam_texts address words.now)) }
-    ensures err { OnErr result (AppendsFront (W.contents writer.old) (W.contents writer.new) (exam_texts address words.now)) }
+/// Puts a line for each word.
+fn put_words<W: Write>(
+    writer: &mut W,
+    table: &mut Table,
+    address: u32,
+    words: &[u16],
+) -> Result<(), Broken>
+    ensures ok { OnOk result (Wrote (W.contents writer.old) (W.contents writer.new)
+        (table.old.items ++ exam_texts address words.now) table.new.items) }
+    ensures err { OnErr result (AppendsFront (W.contents writer.old) (W.contents writer.new)
+        (table.old.items ++ exam_texts address words.now)) }
 {
     let mut at = address;
     for word in words {
-        put_word(writer, at, *word)?;
+        put_word(writer, table, at, *word)?;
         at = at.wrapping_add(2);
     }
     Ok(())
@@ -108,15 +159,24 @@ fn reason_name(reason: StopReason) -> &'static str
     }
 }
 
-fn put_stop<W: Write>(writer: &mut W, reason: StopReason, turns: u32, pc: u16) -> Result<(), Broken>
-    ensures ok { OnOk result (Appends (W.contents writer.old) (W.contents writer.new) (stop_text reason turns pc)) }
-    ensures err { OnErr result (AppendsFront (W.contents writer.old) (W.contents writer.new) (stop_text reason turns pc)) }
+fn put_stop<W: Write>(
+    writer: &mut W,
+    table: &mut Table,
+    reason: StopReason,
+    turns: u32,
+    pc: u16,
+) -> Result<(), Broken>
+    ensures ok { OnOk result (Wrote (W.contents writer.old) (W.contents writer.new)
+        (table.old.items ++ stop_text reason turns pc) table.new.items) }
+    ensures err { OnErr result (AppendsFront (W.contents writer.old) (W.contents writer.new)
+        (table.old.items ++ stop_text reason turns pc)) }
 {
     let mut buffer = Buffer::new();
     let turns = buffer.format(turns).as_bytes();
     let pc = octal(u32::from(pc));
     put_all(
         writer,
+        table,
         &[
             b"STOP ",
             reason_name(reason).as_bytes(),
@@ -140,29 +200,43 @@ fn mark_name(mark: Mark) -> &'static str
     }
 }
 
-/// Writes a space and six octal digits for each word.
-fn put_spaced<W: Write>(writer: &mut W, words: &[u16]) -> Result<(), Broken>
-    ensures ok { OnOk result (Appends (W.contents writer.old) (W.contents writer.new) (spaced_text words.now)) }
-    ensures err { OnErr result (AppendsFront (W.contents writer.old) (W.contents writer.new) (spaced_text words.now)) }
+/// Puts a space and six octal digits for each word.
+fn put_spaced<W: Write>(writer: &mut W, table: &mut Table, words: &[u16]) -> Result<(), Broken>
+    ensures ok { OnOk result (Wrote (W.contents writer.old) (W.contents writer.new)
+        (table.old.items ++ spaced_text words.now) table.new.items) }
+    ensures err { OnErr result (AppendsFront (W.contents writer.old) (W.contents writer.new)
+        (table.old.items ++ spaced_text words.now)) }
 {
     for word in words {
-        put_all(writer, &[b" ", &octal(u32::from(*word))])?;
+        put_all(writer, table, &[b" ", &octal(u32::from(*word))])?;
     }
     Ok(())
 }
 
-fn put_general<W: Write>(writer: &mut W, registers: &Registers) -> Result<(), Broken>
-    ensures ok { OnOk result (Appends (W.contents writer.old) (W.contents writer.new) (general_text registers.now)) }
-    ensures err { OnErr result (AppendsFront (W.contents writer.old) (W.contents writer.new) (general_text registers.now)) }
+fn put_general<W: Write>(
+    writer: &mut W,
+    table: &mut Table,
+    registers: &Registers,
+) -> Result<(), Broken>
+    ensures ok { OnOk result (Wrote (W.contents writer.old) (W.contents writer.new)
+        (table.old.items ++ general_text registers.now) table.new.items) }
+    ensures err { OnErr result (AppendsFront (W.contents writer.old) (W.contents writer.new)
+        (table.old.items ++ general_text registers.now)) }
 {
-    put(writer, b"REGS")?;
-    put_spaced(writer, &registers.general)?;
-    put(writer, b"\n")
+    put(writer, table, b"REGS")?;
+    put_spaced(writer, table, &registers.general)?;
+    put(writer, table, b"\n")
 }
 
-fn put_pointers<W: Write>(writer: &mut W, registers: &Registers) -> Result<(), Broken>
-    ensures ok { OnOk result (Appends (W.contents writer.old) (W.contents writer.new) (pointers_text registers.now)) }
-    ensures err { OnErr result (AppendsFront (W.contents writer.old) (W.contents writer.new) (pointers_text registers.now)) }
+fn put_pointers<W: Write>(
+    writer: &mut W,
+    table: &mut Table,
+    registers: &Registers,
+) -> Result<(), Broken>
+    ensures ok { OnOk result (Wrote (W.contents writer.old) (W.contents writer.new)
+        (table.old.items ++ pointers_text registers.now) table.new.items) }
+    ensures err { OnErr result (AppendsFront (W.contents writer.old) (W.contents writer.new)
+        (table.old.items ++ pointers_text registers.now)) }
 {
     let kernel = octal(u32::from(registers.kernel_sp));
     let user = octal(u32::from(registers.user_sp));
@@ -170,20 +244,28 @@ fn put_pointers<W: Write>(writer: &mut W, registers: &Registers) -> Result<(), B
     let status = octal(u32::from(registers.status));
     put_all(
         writer,
+        table,
         &[
             b"SP ", &kernel, b" ", &user, b" PC ", &pc, b" PS ", &status, b"\n",
         ],
     )
 }
 
-fn put_turns<W: Write>(writer: &mut W, registers: &Registers) -> Result<(), Broken>
-    ensures ok { OnOk result (Appends (W.contents writer.old) (W.contents writer.new) (turn_text registers.now)) }
-    ensures err { OnErr result (AppendsFront (W.contents writer.old) (W.contents writer.new) (turn_text registers.now)) }
+fn put_turns<W: Write>(
+    writer: &mut W,
+    table: &mut Table,
+    registers: &Registers,
+) -> Result<(), Broken>
+    ensures ok { OnOk result (Wrote (W.contents writer.old) (W.contents writer.new)
+        (table.old.items ++ turn_text registers.now) table.new.items) }
+    ensures err { OnErr result (AppendsFront (W.contents writer.old) (W.contents writer.new)
+        (table.old.items ++ turn_text registers.now)) }
 {
     let mut buffer = Buffer::new();
     let turns = buffer.format(registers.turns).as_bytes();
     put_all(
         writer,
+        table,
         &[
             b"TURN ",
             turns,
@@ -194,42 +276,67 @@ fn put_turns<W: Write>(writer: &mut W, registers: &Registers) -> Result<(), Brok
     )
 }
 
-fn put_registers<W: Write>(writer: &mut W, registers: &Registers) -> Result<(), Broken>
-    ensures ok { OnOk result (Appends (W.contents writer.old) (W.contents writer.new) (registers_text registers.now)) }
-    ensures err { OnErr result (AppendsFront (W.contents writer.old) (W.contents writer.new) (registers_text registers.now)) }
+fn put_registers<W: Write>(
+    writer: &mut W,
+    table: &mut Table,
+    registers: &Registers,
+) -> Result<(), Broken>
+    ensures ok { OnOk result (Wrote (W.contents writer.old) (W.contents writer.new)
+        (table.old.items ++ registers_text registers.now) table.new.items) }
+    ensures err { OnErr result (AppendsFront (W.contents writer.old) (W.contents writer.new)
+        (table.old.items ++ registers_text registers.now)) }
 {
-    put_general(writer, registers)?;
-    put_pointers(writer, registers)?;
-    put_turns(writer, registers)
+    put_general(writer, table, registers)?;
+    put_pointers(writer, table, registers)?;
+    put_turns(writer, table, registers)
 }
 
-fn put_fault<W: Write>(writer: &mut W, fault: Fault) -> Result<(), Broken>
-    ensures ok { OnOk result (Appends (W.contents writer.old) (W.contents writer.new) (fault_text fault)) }
-    ensures err { OnErr result (AppendsFront (W.contents writer.old) (W.contents writer.new) (fault_text fault)) }
+fn put_fault<W: Write>(writer: &mut W, table: &mut Table, fault: Fault) -> Result<(), Broken>
+    ensures ok { OnOk result (Wrote (W.contents writer.old) (W.contents writer.new)
+        (table.old.items ++ fault_text fault) table.new.items) }
+    ensures err { OnErr result (AppendsFront (W.contents writer.old) (W.contents writer.new)
+        (table.old.items ++ fault_text fault)) }
 {
     let mut buffer = Buffer::new();
     let number = buffer.format(fault.number()).as_bytes();
     put_all(
         writer,
+        table,
         &[b"? ", number, b" ", fault.name().as_bytes(), b"\n"],
     )
 }
 
-/// Writes the text of an answer, with no growth.
+/// Puts the text of an answer.
+#[tactic(auto, unfolding(crate::specs::AnswerText::text_of))]
+fn put_text<W: Write, A: Allocator>(
+    writer: &mut W,
+    table: &mut Table,
+    answer: &Answer<A>,
+) -> Result<(), Broken>
+    ensures ok { OnOk result (Wrote (W.contents writer.old) (W.contents writer.new)
+        (table.old.items ++ text_of answer.now) table.new.items) }
+    ensures err { OnErr result (AppendsFront (W.contents writer.old) (W.contents writer.new)
+        (table.old.items ++ text_of answer.now)) }
+{
+    match answer {
+        Answer::Done => put(writer, table, b"OK\n"),
+        Answer::Word { address, word } => put_word(writer, table, *address, *word),
+        Answer::Words { address, words } => put_words(writer, table, *address, words.as_slice()),
+        Answer::Stop { reason, turns, pc } => put_stop(writer, table, *reason, *turns, *pc),
+        Answer::Registers(registers) => put_registers(writer, table, registers),
+        Answer::Refused(fault) => put_fault(writer, table, *fault),
+    }
+}
+
+/// Writes the text of an answer, with no growth. A text of at most 4,096 bytes is one write, if the writer takes it whole.
 ///
 /// Where the bytes of the writer are known, they gain exactly the text, and after `Broken` a front
-/// of it: the writer failed, or took no bytes.
-#[tactic(auto, unfolding(crate::specs::AnswerText::text_of))]
+/// of it that isn't all of it: the writer failed, or took no bytes.
 pub fn put_answer<W: Write, A: Allocator>(writer: &mut W, answer: &Answer<A>) -> Result<(), Broken>
     ensures ok { OnOk result (Appends (W.contents writer.old) (W.contents writer.new) (text_of answer.now)) }
     ensures err { OnErr result (AppendsFront (W.contents writer.old) (W.contents writer.new) (text_of answer.now)) }
 {
-    match answer {
-        Answer::Done => put(writer, b"OK\n"),
-        Answer::Word { address, word } => put_word(writer, *address, *word),
-        Answer::Words { address, words } => put_words(writer, *address, words.as_slice()),
-        Answer::Stop { reason, turns, pc } => put_stop(writer, *reason, *turns, *pc),
-        Answer::Registers(registers) => put_registers(writer, registers),
-        Answer::Refused(fault) => put_fault(writer, *fault),
-    }
+    let mut table = Table::new();
+    put_text(writer, &mut table, answer)?;
+    empty(writer, &mut table)
 }

@@ -347,6 +347,45 @@ fn a_writer_that_stops_has_a_front_of_the_text(rt: HostRuntime) -> Result<(), Fa
     Ok(())
 }
 
+/// A writer that takes all, and counts its writes.
+#[derive(Drop)]
+struct Counting {
+    taken: Vec<u8>,
+    writes: u32,
+}
+
+impl Write for Counting {
+    fn write(&mut self, buf: &[u8]) -> io::Result<usize> {
+        self.taken.extend_from_slice(buf)?;
+        self.writes = self.writes.saturating_add(1);
+        Ok(buf.len())
+    }
+
+    fn flush(&mut self) -> io::Result<()> {
+        Ok(())
+    }
+}
+
+#[test]
+fn a_text_of_4096_bytes_is_one_write(rt: HostRuntime) -> Result<(), Fail> {
+    // a line of a word has 19 bytes
+    for (words, writes) in [(1, 1), (215, 1), (216, 2), (512, 3)] {
+        let items = vec![in rt.alloc(); 7; words]?;
+        let answer = Answer::Words {
+            address: 0,
+            words: Words::from_vec(items),
+        };
+        let mut writer = Counting {
+            taken: Vec::new(rt.alloc()),
+            writes: 0,
+        };
+        assert_eq!(rt; put_answer(&mut writer, &answer), Ok(()));
+        assert_eq!(rt; (writer.taken.len(), writer.writes), (19 * words, writes));
+        assert!(rt; writer.taken.as_slice().ends_with(b" 000007\n"));
+    }
+    Ok(())
+}
+
 #[test]
 fn faults_have_their_numbers_and_names(rt: HostRuntime) -> Result<(), Fail> {
     let table = [

@@ -1,7 +1,7 @@
 -- One more byte, and one more line, of a session.
-use Rattle.std.proofs.Common.{◌≡◌, ◌≤◌, ◌<◌, ◌+◌, arith, ℕ, true, false, nat_eq, List, [], ◌∷◌, ◌++◌, length, take, drop, get_or, Option, Some, refl, sym, ap, subst, ◌∙◌, append_assoc, append-nil, add-zero, take-append-drop}
+use Rattle.std.proofs.Common.{◌≡◌, ◌≤◌, ◌<◌, ◌+◌, ◌*◌, arith, ℕ, true, false, nat_eq, List, [], ◌∷◌, ◌++◌, length, take, drop, get_or, Option, Some, refl, sym, ap, subst, ◌∙◌, append_assoc, append-nil, add-zero, take-append-drop}
 use Rattle.std.proofs.lemmas.Bool.{lt-ltb, lt-leb, eq-eqb, ne_eqb}
-use Rattle.std.proofs.lemmas.List.{length-append, take_more, take_all}
+use Rattle.std.proofs.lemmas.List.{length-append, length-take, take_more, take_all}
 use Rattle.std.proofs.lemmas.List.Concat.{flat_map-append}
 use Rattle.std.specs.Option.{option_to_list}
 use Rattle.std.specs.Io.KnownBytes.{Appends, Consumes}
@@ -25,22 +25,13 @@ pub long_line : (A : Type 0) (line : List ℕ) (s : State) → 4096 < length lin
 unfolding LineDoes has_answer line_from
 long_line A line s lt = rw (lt-ltb _ _ lt, lt-leb _ _ lt) (refl, refl)
 
--- one text after another
-front_after : (a b c : Option (List ℕ)) (first second : List ℕ) → Appends a b first → AppendsFront b c second → AppendsFront a c (first ++ second)
-front_after a b c first second done now =
-    record {
-      front = first ++ now.front;
-      back = now.back;
-      written = Appends-trans a b c first now.front done now.written;
-      split = ap (λ (t : List ℕ). first ++ t) now.split ∙ sym (append_assoc first now.front now.back);
-    }
-
-module _ {A : Type 0} where
-  runs_push : (lines : List (List ℕ)) (s : State) (answers : List (Answer A)) (s' : State) (line : List ℕ) (answer : Option (Answer A)) (s'' : State)
-      → Runs A lines s answers s' → LineDoes line s' answer s'' → Runs A (lines ++ line ∷ []) s (answers ++ option_to_list answer) s''
+-- one line more
+module _ {S A : Type 0} (Does : List ℕ → S → Option (Answer A) → S → Type 0) where
+  runs_push : (lines : List (List ℕ)) (s : S) (answers : List (Answer A)) (s' : S) (line : List ℕ) (answer : Option (Answer A)) (s'' : S)
+      → Runs Does lines s answers s' → Does line s' answer s'' → Runs Does (lines ++ line ∷ []) s (answers ++ option_to_list answer) s''
   unfolding Runs
   runs_push [] s answers s' line answer s'' r d =
-      (answer, s'', [], subst (λ (x : State). LineDoes line x answer s'') r.1 d, (refl, refl), ap (λ (x : List (Answer A)). x ++ option_to_list answer) r.0 ∙ sym (append-nil (option_to_list answer)))
+      (answer, s'', [], subst (λ (x : S). Does line x answer s'') r.1 d, (refl, refl), ap (λ (x : List (Answer A)). x ++ option_to_list answer) r.0 ∙ sym (append-nil (option_to_list answer)))
   runs_push (l ∷ lines) s answers s' line answer s'' r d = (
     r.0,
     r.1,
@@ -50,31 +41,38 @@ module _ {A : Type 0} where
     ap (λ (x : List (Answer A)). x ++ option_to_list answer) r.5 ∙ append_assoc (option_to_list r.0) r.2 (option_to_list answer),
   )
 
+module _ {S A : Type 0} {Does : List ℕ → S → Option (Answer A) → S → Type 0} where
   -- one line more is done
-  did_push : (lines : List (List ℕ)) (s : State) (a : Option (List ℕ)) (s' : State) (b : Option (List ℕ)) (n : ℕ) (line : List ℕ) (answer : Option (Answer A)) (s'' : State) (c : Option (List ℕ)) (k : ℕ)
-      → Did A lines s a s' b n → LineDoes line s' answer s'' → Appends b c (texts_of (option_to_list answer)) → k ≡ length (option_to_list answer) → Did A (lines ++ line ∷ []) s a s'' c (n + k)
+  did_push : (lines : List (List ℕ)) (s : S) (a : Option (List ℕ)) (s' : S) (b : Option (List ℕ)) (n : ℕ) (line : List ℕ) (answer : Option (Answer A)) (s'' : S) (c : Option (List ℕ)) (k : ℕ)
+      → Did Does lines s a s' b n → Does line s' answer s'' → Appends b c (texts_of (option_to_list answer)) → k ≡ length (option_to_list answer) → Did Does (lines ++ line ∷ []) s a s'' c (n + k)
   did_push lines s a s' b n line answer s'' c k h d w e = record {
     answers = h.answers ++ option_to_list answer;
-    runs = runs_push lines s h.answers s' line answer s'' h.runs d;
+    runs = runs_push Does lines s h.answers s' line answer s'' h.runs d;
     written = rw flat_map-append (Appends-trans a b c (texts_of h.answers) (texts_of (option_to_list answer)) h.written w);
     counted = omega (arith, h.counted, length-append h.answers (option_to_list answer));
   }
 
   -- one line more is done, and not all of its text is written
-  broke_push : (lines more : List (List ℕ)) (s : State) (a : Option (List ℕ)) (s' : State) (b : Option (List ℕ)) (n : ℕ) (line : List ℕ) (answer : Answer A) (s'' : State) (c : Option (List ℕ))
-      → Did A lines s a s' b n → LineDoes line s' (Some answer) s'' → AppendsFront b c (text_of answer) → Broke A (lines ++ line ∷ more) s a s'' c
+  broke_push : (lines more : List (List ℕ)) (s : S) (a : Option (List ℕ)) (s' : S) (b : Option (List ℕ)) (n : ℕ) (line : List ℕ) (answer : Answer A) (s'' : S) (c : Option (List ℕ))
+      → Did Does lines s a s' b n → Does line s' (Some answer) s'' → AppendsFront b c (text_of answer) → Broke Does (lines ++ line ∷ more) s a s'' c
   broke_push lines more s a s' b n line answer s'' c h d w = record {
-    done = lines ++ line ∷ [];
+    earlier = lines;
+    line = line;
     others = more;
-    split = sym (append_assoc lines (line ∷ []) more);
-    answers = h.answers ++ answer ∷ [];
-    runs = runs_push lines s h.answers s' line (Some answer) s'' h.runs d;
-    written = rw flat_map-append (front_after a b c (texts_of h.answers) (texts_of (answer ∷ [])) h.written (subst (λ (t : List ℕ). AppendsFront b c t) (sym (append-nil (text_of answer))) w));
+    split = refl;
+    answers = h.answers;
+    before = s';
+    runs = h.runs;
+    answer = answer;
+    does = d;
+    between = b;
+    whole = h.written;
+    part = w;
   }
 
   -- a byte other than LF
-  pub stands_byte : (read : List ℕ) (s : State) (a : Option (List ℕ)) (s' : State) (b : Option (List ℕ)) (n : ℕ) (buffer after : Option (List ℕ)) (byte : ℕ)
-      → Stands A read s a s' b n buffer → (byte ≡ 10 → ⊥) → after ≡ pushed buffer byte → Stands A (read ++ byte ∷ []) s a s' b (n + 0) after
+  pub stands_byte : (read : List ℕ) (s : S) (a : Option (List ℕ)) (s' : S) (b : Option (List ℕ)) (n : ℕ) (buffer after : Option (List ℕ)) (byte : ℕ)
+      → Stands Does read s a s' b n buffer → (byte ≡ 10 → ⊥) → after ≡ pushed buffer byte → Stands Does (read ++ byte ∷ []) s a s' b (n + 0) after
   stands_byte read s a s' b n buffer after byte h ne e =
       let other : nat_eq byte 10 ≡ false = ne_eqb byte 10 ne in
       record {
@@ -83,66 +81,69 @@ module _ {A : Type 0} where
       }
 
   -- LF
-  pub stands_line : (read : List ℕ) (s : State) (a : Option (List ℕ)) (s' : State) (b : Option (List ℕ)) (n : ℕ) (buffer after : Option (List ℕ)) (byte : ℕ) (answer : Option (Answer A)) (s'' : State) (c : Option (List ℕ)) (k : ℕ)
-      → Stands A read s a s' b n buffer → byte ≡ 10 → ((piece : List ℕ) → buffer ≡ kept piece → LineDoes (without_cr piece) s' answer s'')
+  pub stands_line : (read : List ℕ) (s : S) (a : Option (List ℕ)) (s' : S) (b : Option (List ℕ)) (n : ℕ) (buffer after : Option (List ℕ)) (byte : ℕ) (answer : Option (Answer A)) (s'' : S) (c : Option (List ℕ)) (k : ℕ)
+      → Stands Does read s a s' b n buffer → byte ≡ 10 → ((piece : List ℕ) → buffer ≡ kept piece → Does (without_cr piece) s' answer s'')
       → Appends b c (texts_of (option_to_list answer)) → k ≡ length (option_to_list answer) → after ≡ Some []
-      → Stands A (read ++ byte ∷ []) s a s'' c (n + k) after
+      → Stands Does (read ++ byte ∷ []) s a s'' c (n + k) after
   stands_line read s a s' b n buffer after byte answer s'' c k h lf does w e nil =
       let is_lf : nat_eq byte 10 ≡ true = eq-eqb byte 10 lf in
       record {
-        did = subst (λ (x : List (List ℕ)). Did A x s a s'' c (n + k)) (sym (lines_at_lf read byte is_lf))
+        did = subst (λ (x : List (List ℕ)). Did Does x s a s'' c (n + k)) (sym (lines_at_lf read byte is_lf))
             (did_push (ended_lines read) s a s' b n (without_cr (pieces_of read).last) answer s'' c k h.did (does (pieces_of read).last h.buffer_is) w e);
         buffer_is = nil ∙ (sym kept_nil ∙ ap kept (sym (last_at_lf read byte is_lf)));
       }
 
-  pub broke_line : (read : List ℕ) (s : State) (a : Option (List ℕ)) (s' : State) (b : Option (List ℕ)) (n : ℕ) (buffer : Option (List ℕ)) (byte : ℕ) (answer : Answer A) (s'' : State) (c : Option (List ℕ))
-      → Stands A read s a s' b n buffer → byte ≡ 10 → ((piece : List ℕ) → buffer ≡ kept piece → LineDoes (without_cr piece) s' (Some answer) s'')
-      → AppendsFront b c (text_of answer) → Broke A (ended_lines (read ++ byte ∷ [])) s a s'' c
+  pub broke_line : (read : List ℕ) (s : S) (a : Option (List ℕ)) (s' : S) (b : Option (List ℕ)) (n : ℕ) (buffer : Option (List ℕ)) (byte : ℕ) (answer : Answer A) (s'' : S) (c : Option (List ℕ))
+      → Stands Does read s a s' b n buffer → byte ≡ 10 → ((piece : List ℕ) → buffer ≡ kept piece → Does (without_cr piece) s' (Some answer) s'')
+      → AppendsFront b c (text_of answer) → Broke Does (ended_lines (read ++ byte ∷ [])) s a s'' c
   broke_line read s a s' b n buffer byte answer s'' c h lf does w =
-      subst (λ (x : List (List ℕ)). Broke A x s a s'' c) (sym (lines_at_lf read byte (eq-eqb byte 10 lf)))
+      subst (λ (x : List (List ℕ)). Broke Does x s a s'' c) (sym (lines_at_lf read byte (eq-eqb byte 10 lf)))
       (broke_push (ended_lines read) [] s a s' b n (without_cr (pieces_of read).last) answer s'' c h.did (does (pieces_of read).last h.buffer_is) w)
 
   -- the last line
-  pub did_last : (read : List ℕ) (s : State) (a : Option (List ℕ)) (s' : State) (b : Option (List ℕ)) (n : ℕ) (buffer : Option (List ℕ)) (answer : Option (Answer A)) (s'' : State) (c : Option (List ℕ)) (k : ℕ)
-      → Stands A read s a s' b n buffer → ((piece : List ℕ) → buffer ≡ kept piece → LineDoes piece s' answer s'')
-      → Appends b c (texts_of (option_to_list answer)) → k ≡ length (option_to_list answer) → Did A (script_lines read) s a s'' c (n + k)
+  pub did_last : (read : List ℕ) (s : S) (a : Option (List ℕ)) (s' : S) (b : Option (List ℕ)) (n : ℕ) (buffer : Option (List ℕ)) (answer : Option (Answer A)) (s'' : S) (c : Option (List ℕ)) (k : ℕ)
+      → Stands Does read s a s' b n buffer → ((piece : List ℕ) → buffer ≡ kept piece → Does piece s' answer s'')
+      → Appends b c (texts_of (option_to_list answer)) → k ≡ length (option_to_list answer) → Did Does (script_lines read) s a s'' c (n + k)
   did_last read s a s' b n buffer answer s'' c k h does w e =
       did_push (ended_lines read) s a s' b n (pieces_of read).last answer s'' c k h.did (does (pieces_of read).last h.buffer_is) w e
 
-  pub broke_last : (read : List ℕ) (s : State) (a : Option (List ℕ)) (s' : State) (b : Option (List ℕ)) (n : ℕ) (buffer : Option (List ℕ)) (answer : Answer A) (s'' : State) (c : Option (List ℕ))
-      → Stands A read s a s' b n buffer → ((piece : List ℕ) → buffer ≡ kept piece → LineDoes piece s' (Some answer) s'')
-      → AppendsFront b c (text_of answer) → Broke A (script_lines read) s a s'' c
+  pub broke_last : (read : List ℕ) (s : S) (a : Option (List ℕ)) (s' : S) (b : Option (List ℕ)) (n : ℕ) (buffer : Option (List ℕ)) (answer : Answer A) (s'' : S) (c : Option (List ℕ))
+      → Stands Does read s a s' b n buffer → ((piece : List ℕ) → buffer ≡ kept piece → Does piece s' (Some answer) s'')
+      → AppendsFront b c (text_of answer) → Broke Does (script_lines read) s a s'' c
   broke_last read s a s' b n buffer answer s'' c h does w =
       broke_push (ended_lines read) [] s a s' b n (pieces_of read).last answer s'' c h.did (does (pieces_of read).last h.buffer_is) w
 
-  broke_wider : (lines others : List (List ℕ)) (s : State) (a : Option (List ℕ)) (s' : State) (b : Option (List ℕ)) → Broke A lines s a s' b → Broke A (lines ++ others) s a s' b
+  broke_wider : (lines others : List (List ℕ)) (s : S) (a : Option (List ℕ)) (s' : S) (b : Option (List ℕ)) → Broke Does lines s a s' b → Broke Does (lines ++ others) s a s' b
   broke_wider lines others s a s' b h = record {
-    done = h.done;
+    earlier = h.earlier;
+    line = h.line;
     others = h.others ++ others;
-    split = ap (λ (x : List (List ℕ)). x ++ others) h.split ∙ append_assoc h.done h.others others;
+    split = ap (λ (x : List (List ℕ)). x ++ others) h.split ∙ append_assoc h.earlier (h.line ∷ h.others) others;
     answers = h.answers;
+    before = h.before;
     runs = h.runs;
-    written = h.written;
+    answer = h.answer;
+    does = h.does;
+    between = h.between;
+    whole = h.whole;
+    part = h.part;
   }
 
   -- what broke in the first bytes broke in all of them
-  pub broke_bytes : (read more : List ℕ) (s : State) (a : Option (List ℕ)) (s' : State) (b : Option (List ℕ)) → Broke A (ended_lines read) s a s' b → Broke A (ended_lines (read ++ more)) s a s' b
+  pub broke_bytes : (read more : List ℕ) (s : S) (a : Option (List ℕ)) (s' : S) (b : Option (List ℕ)) → Broke Does (ended_lines read) s a s' b → Broke Does (ended_lines (read ++ more)) s a s' b
   broke_bytes read more s a s' b h =
       let front = lines_front read more in
-      subst (λ (x : List (List ℕ)). Broke A x s a s' b) (sym front.1) (broke_wider (ended_lines read) front.0 s a s' b h)
-
-  pub broke_script : (read : List ℕ) (s : State) (a : Option (List ℕ)) (s' : State) (b : Option (List ℕ)) → Broke A (ended_lines read) s a s' b → Broke A (script_lines read) s a s' b
-  broke_script read s a s' b h = broke_wider (ended_lines read) ((pieces_of read).last ∷ []) s a s' b h
+      subst (λ (x : List (List ℕ)). Broke Does x s a s' b) (sym front.1) (broke_wider (ended_lines read) front.0 s a s' b h)
 
   -- the same bytes, and the same count
-  pub stands_is : (read same : List ℕ) (s : State) (a : Option (List ℕ)) (s' : State) (b : Option (List ℕ)) (n m : ℕ) (buffer : Option (List ℕ)) → read ≡ same → n ≡ m → Stands A read s a s' b n buffer → Stands A same s a s' b m buffer
-  stands_is read same s a s' b n m buffer e f h = subst (λ (x : List ℕ). Stands A x s a s' b m buffer) e (subst (λ (k : ℕ). Stands A read s a s' b k buffer) f h)
+  pub stands_is : (read same : List ℕ) (s : S) (a : Option (List ℕ)) (s' : S) (b : Option (List ℕ)) (n m : ℕ) (buffer : Option (List ℕ)) → read ≡ same → n ≡ m → Stands Does read s a s' b n buffer → Stands Does same s a s' b m buffer
+  stands_is read same s a s' b n m buffer e f h = subst (λ (x : List ℕ). Stands Does x s a s' b m buffer) e (subst (λ (k : ℕ). Stands Does read s a s' b k buffer) f h)
 
-  pub broke_is : (read same : List ℕ) (s : State) (a : Option (List ℕ)) (s' : State) (b : Option (List ℕ)) → read ≡ same → Broke A (ended_lines read) s a s' b → Broke A (ended_lines same) s a s' b
-  broke_is read same s a s' b e h = subst (λ (x : List ℕ). Broke A (ended_lines x) s a s' b) e h
+  pub broke_is : (read same : List ℕ) (s : S) (a : Option (List ℕ)) (s' : S) (b : Option (List ℕ)) → read ≡ same → Broke Does (ended_lines read) s a s' b → Broke Does (ended_lines same) s a s' b
+  broke_is read same s a s' b e h = subst (λ (x : List ℕ). Broke Does (ended_lines x) s a s' b) e h
 
   -- nothing is read yet
-  pub stands_none : (s : State) (a : Option (List ℕ)) (buffer : Option (List ℕ)) → buffer ≡ Some [] → Stands A [] s a s a 0 buffer
+  pub stands_none : (s : S) (a : Option (List ℕ)) (buffer : Option (List ℕ)) → buffer ≡ Some [] → Stands Does [] s a s a 0 buffer
   unfolding Runs pieces_of
   stands_none s a buffer e = record {
     did = record { answers = []; runs = (refl, refl); written = Appends-nil a; counted = refl };
@@ -166,19 +167,28 @@ consumes_zero a b c read chunk n p q e =
     let same : read ++ take n chunk ≡ read = ap (λ (k : ℕ). read ++ take k chunk) e ∙ append-nil read in
     subst (λ (t : List ℕ). Consumes a c t) same h
 
--- where a session stands after some reads
-pub record Reached (A : Type 0) (old new : Option (List ℕ)) (s : State) (a : Option (List ℕ)) (s' : State) (b : Option (List ℕ)) (n : ℕ) (buffer : Option (List ℕ)) : Type 0 where
+-- where a session stands after k reads, each of 1 to 4,096 bytes
+pub record Reached {S A : Type 0} (Does : List ℕ → S → Option (Answer A) → S → Type 0) (k : ℕ) (old new : Option (List ℕ)) (s : S) (a : Option (List ℕ)) (s' : S) (b : Option (List ℕ)) (n : ℕ) (buffer : Option (List ℕ)) : Type 0 where
   pub read : List ℕ
   pub consumed : Consumes old new read
-  pub stands : Stands A read s a s' b n buffer
+  pub stands : Stands Does read s a s' b n buffer
+  pub least : k ≤ length read
+  pub most : length read ≤ 4096 * k
 
-pub reached_none : (A : Type 0) (r : Option (List ℕ)) (s : State) (a : Option (List ℕ)) (buffer : Option (List ℕ)) → buffer ≡ Some [] → Reached A r r s a s a 0 buffer
-reached_none A r s a buffer e = record { read = []; consumed = Consumes-nil r; stands = stands_none s a buffer e }
+module _ {S A : Type 0} {Does : List ℕ → S → Option (Answer A) → S → Type 0} where
+  pub reached_none : (r : Option (List ℕ)) (s : S) (a : Option (List ℕ)) (buffer : Option (List ℕ)) → buffer ≡ Some [] → Reached Does 0 r r s a s a 0 buffer
+  reached_none r s a buffer e = record { read = []; consumed = Consumes-nil r; stands = stands_none s a buffer e; least = omega arith; most = omega arith }
 
-pub reached_more : (A : Type 0) (old mid new : Option (List ℕ)) (s : State) (a : Option (List ℕ)) (s' : State) (b : Option (List ℕ)) (n : ℕ) (buffer : Option (List ℕ)) (bytes : List ℕ) (s'' : State) (c : Option (List ℕ)) (m : ℕ) (after : Option (List ℕ))
-    (h : Reached A old mid s a s' b n buffer) → Consumes mid new bytes → Stands A (h.read ++ bytes) s a s'' c m after → Reached A old new s a s'' c m after
-reached_more A old mid new s a s' b n buffer bytes s'' c m after h e t = record {
-  read = h.read ++ bytes;
-  consumed = Consumes-trans old mid new h.read bytes h.consumed e;
-  stands = t;
-}
+  pub reached_more : (k : ℕ) (old mid new : Option (List ℕ)) (s : S) (a : Option (List ℕ)) (s' : S) (b : Option (List ℕ)) (n : ℕ) (buffer : Option (List ℕ)) (bytes : List ℕ) (s'' : S) (c : Option (List ℕ)) (m : ℕ) (after : Option (List ℕ))
+      (h : Reached Does k old mid s a s' b n buffer) → Consumes mid new bytes → 0 < length bytes → length bytes ≤ 4096 → Stands Does (h.read ++ bytes) s a s'' c m after → Reached Does (k + 1) old new s a s'' c m after
+  reached_more k old mid new s a s' b n buffer bytes s'' c m after h e some few t = record {
+    read = h.read ++ bytes;
+    consumed = Consumes-trans old mid new h.read bytes h.consumed e;
+    stands = t;
+    least = omega (arith, h.least, length-append h.read bytes);
+    most = omega (arith, h.most, length-append h.read bytes);
+  }
+
+-- how many bytes a read gave
+pub length-taken : (n : ℕ) (buffer : List ℕ) → length buffer ≡ 4096 → n ≤ length buffer → (n ≡ 0 → ⊥) → (0 < length (take n buffer)) × (length (take n buffer) ≤ 4096)
+length-taken n buffer size within some = (omega (arith, length-take n buffer), omega (arith, length-take n buffer))

@@ -46,29 +46,39 @@ unfoldable pub LineDoes : {A : Type 0} → List ℕ → State → Option (Answer
 LineDoes line s answer s' =
     MatchBool (has_answer line) (IsSomeAnd answer (λ a. Asks (line_from line) s a s')) ((answer ≡ None) × (s' ≡ s))
 
--- lines, one after another, with all their answers
-unfoldable pub Runs : (A : Type 0) → List (List ℕ) → State → List (Answer A) → State → Type 0
-Runs A [] s answers s' = (answers ≡ []) × (s' ≡ s)
-Runs A (line ∷ lines) s answers s'' =
-    (answer : Option (Answer A)) × (s' : State) × (others : List (Answer A))
-    × LineDoes line s answer s' × Runs A lines s' others s'' × (answers ≡ option_to_list answer ++ others)
-
 -- the text of answers
 abbrev pub texts_of : {A : Type 0} → List (Answer A) → List ℕ
 texts_of answers = flat_map text_of answers
 
--- These lines are done: from s to s', with so many answers; and their text is written, from the bytes old to new.
-pub record Did (A : Type 0) (lines : List (List ℕ)) (s : State) (old : Option (List ℕ)) (s' : State) (new : Option (List ℕ)) (count : ℕ) : Type 0 where
-  pub answers : List (Answer A)
-  pub runs : Runs A lines s answers s'
-  pub written : Appends old new (texts_of answers)
-  pub counted : count ≡ length answers
+-- What lines do one after another, by what a line does: a relation between a line, a state, the line's answer, if it has
+-- one, and the next state.
+module _ {S A : Type 0} (Does : List ℕ → S → Option (Answer A) → S → Type 0) where
+  -- lines, with all their answers
+  unfoldable pub Runs : List (List ℕ) → S → List (Answer A) → S → Type 0
+  Runs [] s answers s' = (answers ≡ []) × (s' ≡ s)
+  Runs (line ∷ lines) s answers s'' =
+      (answer : Option (Answer A)) × (s' : S) × (others : List (Answer A))
+      × Does line s answer s' × Runs lines s' others s'' × (answers ≡ option_to_list answer ++ others)
 
--- Just the first of these lines are done, and a front of their text is written.
-pub record Broke (A : Type 0) (lines : List (List ℕ)) (s : State) (old : Option (List ℕ)) (s' : State) (new : Option (List ℕ)) : Type 0 where
-  pub done : List (List ℕ)
-  pub others : List (List ℕ)
-  pub split : lines ≡ done ++ others
-  pub answers : List (Answer A)
-  pub runs : Runs A done s answers s'
-  pub written : AppendsFront old new (texts_of answers)
+  -- These lines are done: from s to s', with so many answers; and their text is written, from the bytes old to new.
+  pub record Did (lines : List (List ℕ)) (s : S) (old : Option (List ℕ)) (s' : S) (new : Option (List ℕ)) (count : ℕ) : Type 0 where
+    pub answers : List (Answer A)
+    pub runs : Runs lines s answers s'
+    pub written : Appends old new (texts_of answers)
+    pub counted : count ≡ length answers
+
+  -- Of these lines just those up to one are done, itself included. All earlier texts are written whole, and of its own text
+  -- a front that isn't all of it.
+  pub record Broke (lines : List (List ℕ)) (s : S) (old : Option (List ℕ)) (s' : S) (new : Option (List ℕ)) : Type 0 where
+    pub earlier : List (List ℕ)
+    pub line : List ℕ
+    pub others : List (List ℕ)
+    pub split : lines ≡ earlier ++ line ∷ others
+    pub answers : List (Answer A)
+    pub before : S
+    pub runs : Runs earlier s answers before
+    pub answer : Answer A
+    pub does : Does line before (Some answer) s'
+    pub between : Option (List ℕ)
+    pub whole : Appends old between (texts_of answers)
+    pub part : AppendsFront between new (text_of answer)

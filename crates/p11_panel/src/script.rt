@@ -1,4 +1,5 @@
-ghost use Rattle.std.specs.Prelude.{◌≡◌, ◌≢◌, ◌≤◌, ◌+◌, ◌++◌, ◌∷◌, [], ℕ, List, Option, Some, length, IfOk, IfErr, OnErr, IsErrOf};
+ghost use Rattle.std.specs.Prelude.{◌≡◌, ◌≤◌, ◌+◌, ◌*◌, ◌++◌, ◌∷◌, [], ◌⊎◌, ℕ, List, Option, Some, length};
+ghost use Rattle.std.specs.Prelude.{IfOk, OnErr, IsErrOf};
 ghost use Rattle.std.specs.Io.KnownBytes.{Consumes, IsAtEnd};
 ghost use Rattle.p11_lines.specs.Grammar.{line_from};
 ghost use Rattle.p11_cpu.specs.State.{State};
@@ -146,11 +147,12 @@ fn feed_byte<A: Allocator + Copy, W: Write>(
     byte: u8,
 ) -> Result<u32, Broken>
     ensures ok { IfOk result (λ n. (read : List ℕ) (s : State) (start : Option (List ℕ)) (count : ℕ)
-        → Stands A read s start panel.old (W.contents writer.old) count buffer.old
-        → Stands A (read ++ byte ∷ []) s start panel.new (W.contents writer.new) (count + n) buffer.new) }
+        → Stands (LineDoes {A = A}) read s start panel.old (W.contents writer.old) count buffer.old
+        → Stands (LineDoes {A = A}) (read ++ byte ∷ []) s start
+        panel.new (W.contents writer.new) (count + n) buffer.new) }
     ensures err { OnErr result ((read : List ℕ) (s : State) (start : Option (List ℕ)) (count : ℕ)
-        → Stands A read s start panel.old (W.contents writer.old) count buffer.old
-        → Broke A (ended_lines (read ++ byte ∷ [])) s start panel.new (W.contents writer.new)) }
+        → Stands (LineDoes {A = A}) read s start panel.old (W.contents writer.old) count buffer.old
+        → Broke (LineDoes {A = A}) (ended_lines (read ++ byte ∷ [])) s start panel.new (W.contents writer.new)) }
     ensures one { IfOk result (λ n. n ≤ 1) }
 {
     if byte != b'\n' {
@@ -176,11 +178,12 @@ fn feed<A: Allocator + Copy, W: Write>(
 ) -> Result<u32, Broken>
     requires { length bytes.now ≤ 4096 }
     ensures ok { IfOk result (λ n. (read : List ℕ) (s : State) (start : Option (List ℕ)) (count : ℕ)
-        → Stands A read s start panel.old (W.contents writer.old) count buffer.old
-        → Stands A (read ++ bytes.now) s start panel.new (W.contents writer.new) (count + n) buffer.new) }
+        → Stands (LineDoes {A = A}) read s start panel.old (W.contents writer.old) count buffer.old
+        → Stands (LineDoes {A = A}) (read ++ bytes.now) s start
+        panel.new (W.contents writer.new) (count + n) buffer.new) }
     ensures err { OnErr result ((read : List ℕ) (s : State) (start : Option (List ℕ)) (count : ℕ)
-        → Stands A read s start panel.old (W.contents writer.old) count buffer.old
-        → Broke A (ended_lines (read ++ bytes.now)) s start panel.new (W.contents writer.new)) }
+        → Stands (LineDoes {A = A}) read s start panel.old (W.contents writer.old) count buffer.old
+        → Broke (LineDoes {A = A}) (ended_lines (read ++ bytes.now)) s start panel.new (W.contents writer.new)) }
     ensures few { IfOk result (λ n. n ≤ length bytes.now) }
 {
     let mut answered = 0;
@@ -198,11 +201,11 @@ fn finish<A: Allocator + Copy, W: Write>(
     buffer: &LineBuffer,
 ) -> Result<u32, Broken>
     ensures ok { IfOk result (λ n. (read : List ℕ) (s : State) (start : Option (List ℕ)) (count : ℕ)
-        → Stands A read s start panel.old (W.contents writer.old) count buffer.now
-        → Did A (script_lines read) s start panel.new (W.contents writer.new) (count + n)) }
+        → Stands (LineDoes {A = A}) read s start panel.old (W.contents writer.old) count buffer.now
+        → Did (LineDoes {A = A}) (script_lines read) s start panel.new (W.contents writer.new) (count + n)) }
     ensures err { OnErr result ((read : List ℕ) (s : State) (start : Option (List ℕ)) (count : ℕ)
-        → Stands A read s start panel.old (W.contents writer.old) count buffer.now
-        → Broke A (script_lines read) s start panel.new (W.contents writer.new)) }
+        → Stands (LineDoes {A = A}) read s start panel.old (W.contents writer.old) count buffer.now
+        → Broke (LineDoes {A = A}) (script_lines read) s start panel.new (W.contents writer.new)) }
     ensures one { IfOk result (λ n. n ≤ 1) }
 {
     let Some(answer) = last_line(alloc, panel, buffer) else {
@@ -223,7 +226,8 @@ fn finish<A: Allocator + Copy, W: Write>(
 ///
 /// `Reading` where the reader failed, and `TooLong` where 1,000,000 reads of at most 4,096 bytes found no end: the lines
 /// that LF ended in what was read are done, and all their text is written. `Writing` where the writer failed or took
-/// nothing: the lines up to one are done, and a front of their text is written.
+/// nothing: just the lines up to one are done, itself included. All earlier texts are whole, and of its own text a front is
+/// written, but not all. LF has ended that line, or it is the last of a script that was read to its end.
 pub fn session<A: Allocator + Copy, R: Read, W: Write>(
     alloc: A,
     panel: &mut Panel<A>,
@@ -232,16 +236,28 @@ pub fn session<A: Allocator + Copy, R: Read, W: Write>(
 ) -> Result<u32, SessionFault>
     // The script was read to its end, all its lines are done, and their text is written.
     ensures ok { IfOk result (λ m. (read : List ℕ) × Consumes (R.remaining reader.old) (R.remaining reader.new) read
-        × IsAtEnd (R.remaining reader.new)
-        × Did A (script_lines read) panel.old (W.contents writer.old) panel.new (W.contents writer.new) m) }
+        × IsAtEnd (R.remaining reader.new) × (length read ≤ 999999 * 4096)
+        × Did (LineDoes {A = A}) (script_lines read)
+        panel.old (W.contents writer.old) panel.new (W.contents writer.new) m) }
     // The lines that LF ended in what was read are done, and their text is written.
-    ensures stopped { IfErr result (λ e. e ≢ SessionFault.Writing → (read : List ℕ) × (m : ℕ)
+    ensures reading { IsErrOf result SessionFault.Reading → (read : List ℕ) × (m : ℕ)
         × Consumes (R.remaining reader.old) (R.remaining reader.new) read
-        × Did A (ended_lines read) panel.old (W.contents writer.old) panel.new (W.contents writer.new) m) }
-    // The first lines of what was read are done, and a front of their text is written.
+        × Did (LineDoes {A = A}) (ended_lines read)
+        panel.old (W.contents writer.old) panel.new (W.contents writer.new) m }
+    // The same, of 1,000,000 reads, each of 1 to 4,096 bytes.
+    ensures long { IsErrOf result SessionFault.TooLong → (read : List ℕ) × (m : ℕ)
+        × Consumes (R.remaining reader.old) (R.remaining reader.new) read
+        × (1000000 ≤ length read) × (length read ≤ 1000000 * 4096)
+        × Did (LineDoes {A = A}) (ended_lines read)
+        panel.old (W.contents writer.old) panel.new (W.contents writer.new) m }
+    // Just the lines up to one are done, which LF ended, or which is the last of a script that was read to its end.
     ensures broke { IsErrOf result SessionFault.Writing → (read : List ℕ)
         × Consumes (R.remaining reader.old) (R.remaining reader.new) read
-        × Broke A (script_lines read) panel.old (W.contents writer.old) panel.new (W.contents writer.new) }
+        × (Broke (LineDoes {A = A}) (ended_lines read)
+        panel.old (W.contents writer.old) panel.new (W.contents writer.new)
+        ⊎ (IsAtEnd (R.remaining reader.new)
+        × Broke (LineDoes {A = A}) (script_lines read)
+        panel.old (W.contents writer.old) panel.new (W.contents writer.new))) }
 {
     let mut buffer = LineBuffer::new();
     let mut chunk = [0; 4096];

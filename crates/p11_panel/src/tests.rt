@@ -280,15 +280,18 @@ impl Read for FailingReader<'_> {
     }
 }
 
-/// A reader that gives LF without end.
+/// A reader that gives LF without end, and counts its reads.
 #[derive(Drop)]
-struct EndlessReader;
+struct EndlessReader {
+    reads: u32,
+}
 
 impl Read for EndlessReader {
     fn read(&mut self, buf: &mut [u8]) -> io::Result<usize> {
         if buf.is_empty() {
             return Ok(0);
         }
+        self.reads = self.reads.saturating_add(1);
         buf[0] = b'\n';
         Ok(1)
     }
@@ -320,6 +323,45 @@ impl Write for FailingWriter {
     }
 }
 
+/// A writer that takes all, and counts its writes and bytes.
+#[derive(Drop)]
+struct CountingWriter {
+    writes: u32,
+    bytes: usize,
+}
+
+impl Write for CountingWriter {
+    fn write(&mut self, buf: &[u8]) -> io::Result<usize> {
+        self.writes = self.writes.saturating_add(1);
+        self.bytes = self.bytes.saturating_add(buf.len());
+        Ok(buf.len())
+    }
+
+    fn flush(&mut self) -> io::Result<()> {
+        Ok(())
+    }
+}
+
+#[test]
+fn each_line_is_one_write(rt: HostRuntime) -> Result<(), Fail> {
+    let mut script = Vec::new(rt.alloc());
+    for _ in 0..1000 {
+        script.extend_from_slice(b"step 1\n")?;
+    }
+    script.extend_from_slice(b"regs\nexamine 0 204\nstep 0\n")?;
+    let mut panel = new_panel(rt.alloc())?;
+    let mut writer = CountingWriter {
+        writes: 0,
+        bytes: 0,
+    };
+    let answered = session(rt.alloc(), &mut panel, &mut script.as_slice(), &mut writer);
+    assert_eq!(rt; answered, Ok(1003));
+    assert_eq!(rt; writer.writes, 1003);
+    // `STOP halt 1 o`, the registers, 204 words and `? 13 BadLine`
+    assert_eq!(rt; writer.bytes, 1000 * 19 + 101 + 204 * 19 + 13);
+    Ok(())
+}
+
 #[test]
 fn a_reader_fails(rt: HostRuntime) -> Result<(), Fail> {
     let alloc = rt.alloc();
@@ -342,8 +384,10 @@ fn a_script_without_end_is_too_long(rt: HostRuntime) -> Result<(), Fail> {
     let alloc = rt.alloc();
     let mut panel = new_panel(alloc)?;
     let mut written = Vec::new(alloc);
-    let answered = session(alloc, &mut panel, &mut EndlessReader, &mut written);
+    let mut reader = EndlessReader { reads: 0 };
+    let answered = session(alloc, &mut panel, &mut reader, &mut written);
     assert_eq!(rt; answered, Err(SessionFault::TooLong));
+    assert_eq!(rt; reader.reads, 1_000_000);
     assert!(rt; written.is_empty());
     Ok(())
 }
@@ -553,6 +597,34 @@ fn an_answer_of_several_words_that_memory_refuses(rt: HostRuntime) -> Result<(),
         }
     }
     assert!(rt; refused > 3 && refused < 100);
+    Ok(())
+}
+
+#[test]
+fn a_session_goes_on_where_memory_refuses_a_line(rt: HostRuntime) -> Result<(), Fail> {
+    let Ok(config) = Config::new(4, 0) else {
+        return Err(Fail::from(NoMemory));
+    };
+    let heap = LocalHeap::new(rt.alloc(), 16384)?;
+    let mut panel = Panel::new(&heap, config)?;
+    let ballast = fill(rt.alloc(), &heap)?;
+    let mut script =
+        b"deposit 1000 1 2\nset 0 7\nexamine 1000 2\ndeposit 1000\nexamine 1000\n".as_slice();
+    let mut written = Vec::new(rt.alloc());
+    let answered = session(&heap, &mut panel, &mut script, &mut written);
+    assert_eq!(rt; answered, Ok(5));
+    assert_eq!(rt;
+        written.as_slice(),
+        b"? 12 NoMemory\nOK\n? 12 NoMemory\n? 13 BadLine\nEXAM 001000 000000\n".as_slice()
+    );
+    drop(ballast);
+    let mut again = b"deposit 1000 1 2\nexamine 1000 2\n".as_slice();
+    let mut more = Vec::new(rt.alloc());
+    assert_eq!(rt; session(&heap, &mut panel, &mut again, &mut more), Ok(2));
+    assert_eq!(rt;
+        more.as_slice(),
+        b"OK\nEXAM 001000 000001\nEXAM 001002 000002\n".as_slice()
+    );
     Ok(())
 }
 

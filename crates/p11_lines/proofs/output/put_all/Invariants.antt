@@ -1,7 +1,7 @@
-use Rattle.std.proofs.Common.{drop}
+use Rattle.std.proofs.Common.{◌++◌, drop}
 use Rattle.std.specs.List.{flat_map}
-use Rattle.p11_lines.proofs.Pieces.{Wrote}
+use Rattle.p11_lines.specs.Written.{Wrote}
 use Rattle.p11_lines.proofs.output.put_all.Given as goal
 
 abbrev pub invariant-loop-piece : goal.invariant-loop-piece
-invariant-loop-piece g l = Wrote (g.W.Write.contents l.fn.writer) (g.W.Write.contents l.writer) (flat_map (λ piece. piece.now) l.pieces) (flat_map (λ piece. piece.now) (drop l.piece-index l.pieces))
+invariant-loop-piece g l = Wrote (g.W.Write.contents l.fn.writer) (g.W.Write.contents l.writer) (l.fn.table.items ++ flat_map (λ piece. piece.now) l.pieces) (l.table.items ++ flat_map (λ piece. piece.now) (drop l.piece-index l.pieces))

@@ -1,21 +1,45 @@
-use Rattle.std.proofs.Common.{arith, take, ◌++◌}
+use Rattle.std.proofs.Common.{◌≡◌, ◌≤◌, ◌<◌, ◌*◌, arith, rules, length, take, ◌++◌, inl, inr}
 use Rattle.std.proofs.lemmas.Grind.{common_steps}
 use Rattle.std.proofs.KnownBytes.{Consumes-trans}
-use Rattle.p11_panel.proofs.SessionLemmas.{reached_none, reached_more, consumes_zero, broke_script}
+use Rattle.p11_panel.proofs.SessionLemmas.{reached_none, reached_more, consumes_zero, length-taken}
 use Rattle.p11_panel.proofs.script.session.Goals as goal
 
 pub loop-turn-init : goal.loop-turn-init
 loop-turn-init g c = record {
   few = omega arith;
-  reached = reached_none _ (g.R.Read.remaining c.args.reader.now) c.args.panel.now (g.W.Write.contents c.args.writer.now) c.new-buffer.result c.new-buffer.ensures;
+  reached = reached_none (g.R.Read.remaining c.args.reader.now) c.args.panel.now (g.W.Write.contents c.args.writer.now) c.new-buffer.result c.new-buffer.ensures;
 }
+
+pub returns-then-len-eq0-clause-ok : goal.returns-then-len-eq0-clause-ok
+returns-then-len-eq0-clause-ok g c =
+    let r = c.loop-turn.invariant.reached in (
+      r.read,
+      consumes_zero (g.R.Read.remaining c.args.reader.now) (g.R.Read.remaining c.loop-turn.reader) (g.R.Read.remaining c.read.new.self) r.read _ _ r.consumed c.in-Ok.ensures.bytes.0 c.if-len-eq0.true,
+      search rules,
+      omega (arith, r.most, c.loop-turn-test.true),
+      c.in_ok-answered.ensures.ok r.read c.args.panel.now (g.W.Write.contents c.args.writer.now) c.loop-turn.answered r.stands,
+    )
+
+pub returns-clause-long : goal.returns-clause-long
+returns-clause-long g c _ =
+    let r = c.loop-turn.invariant.reached in (
+      r.read,
+      c.loop-turn.answered,
+      r.consumed,
+      omega (arith, r.least, c.loop-turn-test.false),
+      omega (arith, r.most, c.loop-turn.auto._turn-end),
+      r.stands.did,
+    )
 
 pub returns-in_err-answered-clause-broke : goal.returns-in_err-answered-clause-broke
 returns-in_err-answered-clause-broke g c _ =
     let r = c.loop-turn.invariant.reached in (
       r.read,
       consumes_zero (g.R.Read.remaining c.args.reader.now) (g.R.Read.remaining c.loop-turn.reader) (g.R.Read.remaining c.read.new.self) r.read _ _ r.consumed c.in-Ok.ensures.bytes.0 c.if-len-eq0.true,
-      c.in_err-answered.ensures.err r.read c.args.panel.now (g.W.Write.contents c.args.writer.now) c.loop-turn.answered r.stands,
+      inr (
+        search rules,
+        c.in_err-answered.ensures.err r.read c.args.panel.now (g.W.Write.contents c.args.writer.now) c.loop-turn.answered r.stands,
+      ),
     )
 
 pub returns-in_err-answered-2-clause-broke : goal.returns-in_err-answered-2-clause-broke
@@ -24,15 +48,16 @@ returns-in_err-answered-2-clause-broke g c _ =
     let bytes = take c.in-Ok.len c.read.new.buf in (
       r.read ++ bytes,
       Consumes-trans (g.R.Read.remaining c.args.reader.now) (g.R.Read.remaining c.loop-turn.reader) (g.R.Read.remaining c.read.new.self) r.read bytes r.consumed c.in-Ok.ensures.bytes.0,
-      broke_script _ _ _ _ _ (c.in_err-answered-2.ensures.err r.read c.args.panel.now (g.W.Write.contents c.args.writer.now) c.loop-turn.answered r.stands),
+      inl (c.in_err-answered-2.ensures.err r.read c.args.panel.now (g.W.Write.contents c.args.writer.now) c.loop-turn.answered r.stands),
     )
 
 pub loop-turn-preserved : goal.loop-turn-preserved
 loop-turn-preserved g c =
     let r = c.loop-turn.invariant.reached in
     let bytes = take c.in-Ok.len c.read.new.buf in
+    let given = length-taken c.in-Ok.len c.read.new.buf (search rules) c.in-Ok.ensures.bound.0 c.if-len-eq0.false in
     record {
       few = grind (arith, common_steps, c.in_ok-answered-2.ensures.few);
-      reached = reached_more _ (g.R.Read.remaining c.args.reader.now) (g.R.Read.remaining c.loop-turn.reader) (g.R.Read.remaining c.read.new.self) _ _ _ _ c.loop-turn.answered _ bytes _ _ _ _ r c.in-Ok.ensures.bytes.0
+      reached = reached_more c.loop-turn._turn (g.R.Read.remaining c.args.reader.now) (g.R.Read.remaining c.loop-turn.reader) (g.R.Read.remaining c.read.new.self) _ _ _ _ c.loop-turn.answered _ bytes _ _ _ _ r c.in-Ok.ensures.bytes.0 given.0 given.1
           (c.in_ok-answered-2.ensures.ok r.read c.args.panel.now (g.W.Write.contents c.args.writer.now) c.loop-turn.answered r.stands);
     }

@@ -1,6 +1,6 @@
 use Rattle.std.proofs.Common.{length}
-use Rattle.p11_lines.proofs.Pieces.{Wrote}
-use Rattle.p11_lines.proofs.output.put.Given as goal
+use Rattle.p11_lines.specs.Written.{Wrote}
+use Rattle.p11_lines.proofs.output.write_out.Given as goal
 
 abbrev pub invariant-loop-rest : goal.invariant-loop-rest
 invariant-loop-rest g l = Wrote (g.W.Write.contents l.fn.writer) (g.W.Write.contents l.writer) l.fn.piece l.rest
