@@ -8,7 +8,7 @@ use Rattle.p11_lines.specs.declared.answer.Mark.{Mark}
 use Rattle.p11_lines.specs.declared.answer.Mark.TheVariants.{Ready, Waiting, Halted}
 use Rattle.p11_lines.specs.declared.answer.Registers.{Registers}
 use Rattle.p11_lines.specs.declared.answer.StopReason.{StopReason}
-use Rattle.p11_lines.specs.declared.answer.StopReason.TheVariants.{Halt, Turns, Memory}
+use Rattle.p11_lines.specs.declared.answer.StopReason.TheVariants.{Halt, Turns, Idle, Memory}
 use Rattle.p11_lines.specs.declared.fault.Fault.{Fault}
 use Rattle.p11_lines.specs.FaultTable.{number_of_fault, name_of_fault}
 
@@ -30,6 +30,7 @@ exam_texts address (word ∷ words) = exam_text address word ++ exam_texts (addr
 abbrev pub reason_text : StopReason → List ℕ
 reason_text Halt = codes "halt"
 reason_text Turns = codes "turns"
+reason_text Idle = codes "idle"
 reason_text Memory = codes "memory"
 
 -- `STOP r d o`: why, after how many turns, and where the program counter is

@@ -10,6 +10,8 @@ pub enum StopReason {
     Halt,
     /// All the turns that were asked for are made.
     Turns,
+    /// The processor waits, and nothing that it could wait for is due at any later turn.
+    Idle,
     /// A growth that the next turn needs was refused.
     Memory,
 }

@@ -155,6 +155,7 @@ fn reason_name(reason: StopReason) -> &'static str
     match reason {
         StopReason::Halt => "halt",
         StopReason::Turns => "turns",
+        StopReason::Idle => "idle",
         StopReason::Memory => "memory",
     }
 }

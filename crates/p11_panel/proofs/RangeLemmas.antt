@@ -1,10 +1,10 @@
 -- Ranges of addresses whose words all answer.
-use Rattle.std.proofs.Common.{◌≡◌, ℕ, zero, suc, ◌+◌, ◌*◌, ◌<◌, List, [], ◌∷◌, ◌++◌, Bool, true, false, ◌&&◌, length, take, get_or, rules, refl, ap, ◌∙◌, arith, inl, inr}
+use Rattle.std.proofs.Common.{◌≡◌, ℕ, zero, suc, ◌+◌, ◌*◌, ◌<◌, List, [], ◌∷◌, ◌++◌, Bool, true, false, ◌&&◌, length, take, get_or, rules, refl, ap, ◌∙◌, arith, add-one, inl, inr}
 use Rattle.std.proofs.lemmas.Bool.{cases_lt}
 use Rattle.std.proofs.lemmas.List.{take_more}
 use Rattle.p11_cpu.specs.State.{State}
-use Rattle.p11_cpu.specs.Operator.{answers_of, deposit_of}
-use Rattle.p11_panel.specs.Ranges.{answers_at, all_answer, deposited}
+use Rattle.p11_cpu.specs.Operator.{answers_of, examine_of, deposit_of}
+use Rattle.p11_panel.specs.Ranges.{answers_at, all_answer, reads_at, deposited}
 
 and_true-left : (a b : Bool) → (a && b) ≡ true → a ≡ true
 and_true-left true b e = refl
@@ -64,3 +64,8 @@ pub deposited_more : (address : ℕ) (words : List ℕ) (i d : ℕ) (s s' : Stat
 deposited_more address words i d s s' h e =
     let size : length (take i words) ≡ i = search rules in
     rw (take_more words i d h, deposited_push address (take i words) (get_or words i d) s, size, e) refl
+
+-- one more word is read
+pub reads_more : (address n word : ℕ) (words : List ℕ) (s s' s'' : State) → reads_at address n s ≡ (s', words) → examine_of (address + 2 * n) s' ≡ (s'', word) → reads_at address (n + 1) s ≡ (s'', words ++ word ∷ [])
+unfolding reads_at
+reads_more address n word words s s' s'' e f = rw (add-one n, e, f) refl

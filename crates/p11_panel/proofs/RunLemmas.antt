@@ -1,69 +1,112 @@
 -- One more turn of a run.
-use Rattle.std.proofs.Common.{◌≡◌, ℕ, suc, ◌+◌, ◌<◌, true, false, ◌==◌, Some, None, if◌then◌else◌, refl, ap, subst, sym, ◌∙◌, arith, inl, inr, add-one}
+use Rattle.std.proofs.Common.{◌≡◌, ◌≢◌, ℕ, suc, ◌+◌, ◌<◌, Bool, true, false, ◌==◌, Option, Some, None, MatchOption, if◌then◌else◌, Result, Ok, Err, refl, ap, subst, sym, ◌∙◌, arith, inl, inr, add-one}
 use Rattle.std.proofs.lemmas.Bool.{cases_lt}
+use Rattle.std.specs.Result.{IsOk, is_err}
 use Rattle.p11_lines.specs.declared.answer.StopReason.{StopReason}
 use Rattle.p11_lines.specs.declared.answer.StopReason.TheVariants as reasons
 use Rattle.p11_cpu.specs.declared.turn.Turn.{Turn}
-use Rattle.p11_cpu.specs.declared.turn.Turn.TheVariants.{Ran}
+use Rattle.p11_cpu.specs.declared.turn.Turn.TheVariants.{Ran, Halted}
 use Rattle.p11_cpu.specs.State.{State}
+use Rattle.p11_cpu.specs.Prepared.{needs_memory}
 use Rattle.p11_cpu.specs.Turns.{turn_of}
-use Rattle.p11_panel.specs.Runs.{after_turns, stop_at, stop_of, IsRun}
+use Rattle.p11_panel.specs.Runs.{after_turns, is_halt, last_halted, stop_of, IsMemory, IsRun}
 
--- k turns of a run of n are made, and the last of them stopped nothing
-pub record Goes (n : ℕ) (s : State) (k : ℕ) (s' : State) : Type 0 where
+-- k turns of a run of n are made, none of them halted, and no fewer stopped it
+pub record Goes (idles : State → Bool) (n : ℕ) (s : State) (k : ℕ) (s' : State) : Type 0 where
   pub state : s' ≡ after_turns k s
-  pub last : stop_of n k s ≡ stop_at n k Ran
-  pub goes_on : (j : ℕ) → j < k → stop_of n j s ≡ None
+  pub ran : last_halted k s ≡ false
+  pub goes_on : (j : ℕ) → j < k → stop_of idles n j s ≡ None
 
-pub no_turn : (n : ℕ) (s : State) → Goes n s 0 s
-unfolding after_turns stop_of
-no_turn n s = record { state = refl; last = refl; goes_on = λ j h. absurd (omega arith) }
+pub no_turn : (idles : State → Bool) (n : ℕ) (s : State) → Goes idles n s 0 s
+unfolding after_turns last_halted
+no_turn idles n s = record { state = refl; ran = refl; goes_on = λ j h. absurd (omega arith) }
 
--- so far no turn stopped the run, if it isn't over
-not_yet : (n k : ℕ) (s s' : State) → k < n → Goes n s k s' → (j : ℕ) → j < k + 1 → stop_of n j s ≡ None
-not_yet n k s s' h goes j below =
+pub goes_is : (idles : State → Bool) (n k : ℕ) (s s' z : State) → z ≡ s' → Goes idles n s k s' → Goes idles n s k z
+goes_is idles n k s s' z same goes = record { state = same ∙ goes.state; ran = goes.ran; goes_on = goes.goes_on }
+
+-- the run isn't over
+not_over : (idles : State → Bool) (n k : ℕ) (s s' : State) → k < n → idles s' ≡ false → Goes idles n s k s' → stop_of idles n k s ≡ None
+unfolding stop_of
+not_over idles n k s s' h busy goes =
+    let other : (k == n) ≡ false = grind (arith, h) in
+    let here : idles (after_turns k s) ≡ false = subst (λ (x : State). idles x ≡ false) goes.state busy in
+    rw (goes.ran, other, here) refl
+
+not_yet : (idles : State → Bool) (n k : ℕ) (s s' : State) → k < n → idles s' ≡ false → Goes idles n s k s' → (j : ℕ) → j < k + 1 → stop_of idles n j s ≡ None
+not_yet idles n k s s' h busy goes j below =
     elim (cases_lt j k) [
       | inl earlier ↦ goes.goes_on j earlier
       | inr now ↦
           let same : j ≡ k = omega arith in
-          let other : (k == n) ≡ false = grind (arith, h) in
-          rw same (goes.last ∙ ap (λ b. if b then Some reasons.Turns else None) other)
+          rw same (not_over idles n k s s' h busy goes)
     ]
 
 after_one : (k : ℕ) (s s' z : State) (t : Turn) → s' ≡ after_turns k s → turn_of s' ≡ (z, t) → z ≡ after_turns (k + 1) s
 unfolding after_turns
 after_one k s s' z t e f = rw (add-one k) (ap (λ r. r.0) (sym f) ∙ ap (λ x. (turn_of x).0) e)
 
-stop_one : (n k : ℕ) (s s' z : State) (t : Turn) → s' ≡ after_turns k s → turn_of s' ≡ (z, t) → stop_of n (k + 1) s ≡ stop_at n (k + 1) t
-unfolding stop_of
-stop_one n k s s' z t e f = rw (add-one k) (ap (λ x. stop_at n (suc k) (turn_of x).1) (sym e) ∙ ap (λ r. stop_at n (suc k) r.1) f)
+halted_one : (k : ℕ) (s s' z : State) (t : Turn) → s' ≡ after_turns k s → turn_of s' ≡ (z, t) → last_halted (k + 1) s ≡ is_halt t
+unfolding last_halted
+halted_one k s s' z t e f = rw (add-one k) (ap (λ x. is_halt (turn_of x).1) (sym e) ∙ ap (λ r. is_halt r.1) f)
 
--- a turn that stops nothing
-pub one_more : (n k : ℕ) (s s' z : State) → k < n → Goes n s k s' → turn_of s' ≡ (z, Ran) → Goes n s (k + 1) z
-one_more n k s s' z h goes f =
+-- a turn that doesn't halt
+pub one_more : (idles : State → Bool) (n k : ℕ) (s s' z : State) → k < n → idles s' ≡ false → Goes idles n s k s' → turn_of s' ≡ (z, Ran) → Goes idles n s (k + 1) z
+one_more idles n k s s' z h busy goes f =
     record {
       state = after_one k s s' z Ran goes.state f;
-      last = stop_one n k s s' z Ran goes.state f;
-      goes_on = not_yet n k s s' h goes;
+      ran = halted_one k s s' z Ran goes.state f;
+      goes_on = not_yet idles n k s s' h busy goes;
     }
 
--- a turn that stops the run
-pub last_turn : (n k : ℕ) (s s' z : State) (t : Turn) (reason : StopReason) → k < n → Goes n s k s' → turn_of s' ≡ (z, t) → stop_at n (k + 1) t ≡ Some reason → IsRun n s (k + 1) reason z
-last_turn n k s s' z t reason h goes f e =
+-- what stops a run is its reason
+stops_by : (idles : State → Bool) (n k : ℕ) (s s' : State) (reason : StopReason) → stop_of idles n k s ≡ Some reason → MatchOption (stop_of idles n k s) (IsMemory reason s') (λ first. reason ≡ first)
+stops_by idles n k s s' reason e = subst (λ (o : Option StopReason). MatchOption o (IsMemory reason s') (λ first. reason ≡ first)) (sym e) refl
+
+stop_halted : (idles : State → Bool) (n k : ℕ) (s : State) → last_halted k s ≡ true → stop_of idles n k s ≡ Some reasons.Halt
+unfolding stop_of
+stop_halted idles n k s e = rw e refl
+
+-- a turn that halts
+pub halting_turn : (idles : State → Bool) (n k : ℕ) (s s' z : State) → k < n → idles s' ≡ false → Goes idles n s k s' → turn_of s' ≡ (z, Halted) → IsRun idles n s (k + 1) reasons.Halt z
+halting_turn idles n k s s' z h busy goes f =
     record {
-      state = after_one k s s' z t goes.state f;
-      stops = stop_one n k s s' z t goes.state f ∙ e;
-      goes_on = not_yet n k s s' h goes;
+      state = after_one k s s' z Halted goes.state f;
+      stops = stops_by idles n (k + 1) s z reasons.Halt (stop_halted idles n (k + 1) s (halted_one k s s' z Halted goes.state f));
+      goes_on = not_yet idles n k s s' h busy goes;
     }
+
+stop_made : (idles : State → Bool) (n : ℕ) (s : State) → last_halted n s ≡ false → stop_of idles n n s ≡ Some reasons.Turns
+unfolding stop_of
+stop_made idles n s e =
+    let same : (n == n) ≡ true = grind arith in
+    rw (e, same) refl
 
 -- all turns are made
-pub all_made : (n k : ℕ) (s s' : State) → k ≡ n → Goes n s k s' → IsRun n s n reasons.Turns s'
-all_made n k s s' e goes =
-    let same : (n == n) ≡ true = grind arith in
-    let P : ℕ → Type 0 = λ m. Goes n s m s' in
-    let here : Goes n s n s' = subst P e goes in
+pub all_made : (idles : State → Bool) (n k : ℕ) (s s' : State) → k ≡ n → Goes idles n s k s' → IsRun idles n s n reasons.Turns s'
+all_made idles n k s s' e goes =
+    let P : ℕ → Type 0 = λ m. Goes idles n s m s' in
+    let here : Goes idles n s n s' = subst P e goes in
     record {
       state = here.state;
-      stops = here.last ∙ ap (λ b. if b then Some reasons.Turns else None) same;
+      stops = stops_by idles n n s s' reasons.Turns (stop_made idles n s here.ran);
       goes_on = here.goes_on;
     }
+
+-- the next turn wants memory
+pub no_memory : (idles : State → Bool) (n k : ℕ) (s s' z : State) → k < n → idles s' ≡ false → z ≡ s' → needs_memory s' ≡ true → Goes idles n s k s' → IsRun idles n s k reasons.Memory z
+no_memory idles n k s s' z h busy same needs goes =
+    record {
+      state = same ∙ goes.state;
+      stops = subst (λ (o : Option StopReason). MatchOption o (IsMemory reasons.Memory z) (λ first. reasons.Memory ≡ first)) (sym (not_over idles n k s s' h busy goes))
+          (refl, subst (λ (x : State). needs_memory x ≡ true) (sym same) needs);
+      goes_on = goes.goes_on;
+    }
+
+err_not_ok : {T E : Type 0} (e : E) → IsOk {T = T} (Err e) → ⊥
+err_not_ok e h = cc
+
+-- a call that fails was one that might
+pub needs_by : {T E : Type 0} (b : Bool) (r : Result T E) → (b ≡ false → IsOk r) → is_err r ≡ true → b ≡ true
+needs_by true r needless failed = refl
+needs_by false (Ok v) needless failed = cc
+needs_by false (Err e) needless failed = absurd (err_not_ok e (needless refl))

@@ -14,8 +14,8 @@ use Rattle.p11_cpu.specs.State.{State, Processor}
 use Rattle.p11_cpu.specs.Operator.{examine_of, start_of, console_register, set_reg_of}
 use Rattle.p11_panel.specs.declared.command.Command.{Command}
 use Rattle.p11_panel.specs.declared.command.Command.TheVariants as commands
-use Rattle.p11_panel.specs.Ranges.{all_answer, words_at, deposited}
-use Rattle.p11_panel.specs.Runs.{IsRun}
+use Rattle.p11_panel.specs.Ranges.{all_answer, reads_at, deposited}
+use Rattle.p11_panel.specs.Runs.{IsRun, never_idles}
 
 -- EXAMINE: 1 to 512 words from an even address on, all of which answer
 unfoldable pub examine_fault : ℕ → ℕ → State → Option Fault
@@ -25,9 +25,15 @@ examine_fault address n s =
     else (if address % 2 == 1 then Some OddAddress
     else (if all_answer address n s then None else Some NoAnswer)))
 
--- what it answers: a word, or a list of words
-unfoldable pub shown : {A : Type 0} → ℕ → ℕ → State → Answer A
-shown address n s = if n == 1 then answers.Word address (examine_of address s) else answers.Words address (words_at address n s)
+-- the machine after it, and what it answers: a word, or a list of words
+abbrev pub with_word : {A : Type 0} → ℕ → State × ℕ → State × Answer A
+with_word address read = (read.0, answers.Word address read.1)
+
+abbrev pub with_words : {A : Type 0} → ℕ → State × List ℕ → State × Answer A
+with_words address read = (read.0, answers.Words address read.1)
+
+unfoldable pub examined : {A : Type 0} → ℕ → ℕ → State → State × Answer A
+examined address n s = if n == 1 then with_word address (examine_of address s) else with_words address (reads_at address n s)
 
 -- whether more than one word is written, and the last of them to the I/O page, which is 760000 and up
 unfoldable pub touches_io_page : ℕ → ℕ → Bool
@@ -59,7 +65,7 @@ mark_of p = if p.halted then Halted else (if p.waiting then Waiting else Ready)
 
 unfoldable pub registers_of : State → Registers
 registers_of s =
-    let p = s.hardware.processor in
+    let p = s.processor in
     record {
       general = p.registers.general;
       kernel_sp = p.registers.kernel_sp;
@@ -78,9 +84,9 @@ IsRefused fault s answer s' = (answer ≡ answers.Refused fault) × (s' ≡ s)
 abbrev pub IsDone : {A : Type 0} → Answer A → State → Answer A → State → Type 0
 IsDone done after answer s' = (answer ≡ done) × (s' ≡ after)
 
--- EXAMINE changes nothing. The list of several words may find no memory.
+-- EXAMINE reads its words. The list of several may find no memory, before the first is read.
 abbrev pub Examines : {A : Type 0} → ℕ → ℕ → State → Answer A → State → Type 0
-Examines address n s answer s' = IsDone (shown address n s) s answer s' ⊎ ((1 < n) × IsRefused NoMemory s answer s')
+Examines address n s answer s' = (examined address n s ≡ (s', answer)) ⊎ ((1 < n) × IsRefused NoMemory s answer s')
 
 -- SET writes a word to the register of a number, where one has it
 abbrev pub Sets : {A : Type 0} → ℕ → ℕ → State → Answer A → State → Type 0
@@ -90,7 +96,7 @@ Sets number word s answer s' =
 -- STEP makes a run of n turns, and answers its reason, how many turns were made, and PC
 abbrev pub Steps : {A : Type 0} → ℕ → State → Answer A → State → Type 0
 Steps n s answer s' =
-    (k : ℕ) × (reason : StopReason) × IsRun n s k reason s' × (answer ≡ answers.Stop reason k s'.hardware.processor.registers.pc)
+    (k : ℕ) × (reason : StopReason) × IsRun never_idles n s k reason s' × (answer ≡ answers.Stop reason k s'.processor.registers.pc)
 
 -- What a command does to a machine: the answer, and the state after it.
 abbrev pub Acts : {A : Type 0} → State → Command A → Answer A → State → Type 0

@@ -11,10 +11,13 @@ unfoldable pub all_answer : ℕ → ℕ → State → Bool
 all_answer address zero s = true
 all_answer address (suc n) s = all_answer address n s && answers_at (address + 2 * n) s
 
--- the words that show
-unfoldable pub words_at : ℕ → ℕ → State → List ℕ
-words_at address zero s = []
-words_at address (suc n) s = words_at address n s ++ examine_of (address + 2 * n) s ∷ []
+-- the machine once so many words are read, one after another, and the words
+unfoldable pub reads_at : ℕ → ℕ → State → State × List ℕ
+reads_at address zero s = (s, [])
+reads_at address (suc n) s =
+    let earlier = reads_at address n s in
+    let last = examine_of (address + 2 * n) earlier.0 in
+    (last.0, earlier.1 ++ last.1 ∷ [])
 
 -- the machine once the words are written, one after another
 unfoldable pub deposited : ℕ → List ℕ → State → State

@@ -1,10 +1,11 @@
--- A run of turns, as `step` makes it.
-use Rattle.std.specs.Prelude.{◌≡◌, ℕ, zero, suc, ◌<◌, Option, None, Some, ◌==◌, if◌then◌else◌}
+-- A run of turns, as the operator makes it.
+use Rattle.std.specs.Prelude.{◌≡◌, ℕ, zero, suc, ◌<◌, Bool, true, false, Option, None, Some, MatchOption, ◌==◌, if◌then◌else◌}
 use Rattle.p11_lines.specs.declared.answer.StopReason.{StopReason}
 use Rattle.p11_lines.specs.declared.answer.StopReason.TheVariants as reasons
 use Rattle.p11_cpu.specs.declared.turn.Turn.{Turn}
 use Rattle.p11_cpu.specs.declared.turn.Turn.TheVariants.{Ran, Halted}
 use Rattle.p11_cpu.specs.State.{State}
+use Rattle.p11_cpu.specs.Prepared.{needs_memory}
 use Rattle.p11_cpu.specs.Turns.{turn_of}
 
 -- the machine after so many turns
@@ -12,18 +13,34 @@ unfoldable pub after_turns : ℕ → State → State
 after_turns zero s = s
 after_turns (suc k) s = (turn_of (after_turns k s)).0
 
--- why a run of n turns stops after a turn that ended so, when k are made
-abbrev pub stop_at : ℕ → ℕ → Turn → Option StopReason
-stop_at n k Halted = Some reasons.Halt
-stop_at n k Ran = if k == n then Some reasons.Turns else None
+abbrev pub is_halt : Turn → Bool
+is_halt Halted = true
+is_halt Ran = false
 
--- Why a run of n turns from s stops when k are made, if it does: the last of them halted, or n are made.
-unfoldable pub stop_of : ℕ → ℕ → State → Option StopReason
-stop_of n zero s = stop_at n zero Ran
-stop_of n (suc k) s = stop_at n (suc k) (turn_of (after_turns k s)).1
+-- whether the last of so many turns halted
+unfoldable pub last_halted : ℕ → State → Bool
+last_halted zero s = false
+last_halted (suc k) s = is_halt (turn_of (after_turns k s)).1
 
--- a run of n turns from s makes k of them, for which it has a reason, and comes to s'; for no fewer turns it had one
-pub record IsRun (n : ℕ) (s : State) (k : ℕ) (reason : StopReason) (s' : State) : Type 0 where
+-- Why a run of n turns from s stops when k are made, if it does. The first that holds: the last of them halted; n are made;
+-- the machine idles, for a run that asks so.
+unfoldable pub stop_of : (State → Bool) → ℕ → ℕ → State → Option StopReason
+stop_of idles n k s =
+    if last_halted k s then Some reasons.Halt
+    else (if k == n then Some reasons.Turns
+    else (if idles (after_turns k s) then Some reasons.Idle else None))
+
+-- STEP doesn't ask whether the machine idles
+abbrev pub never_idles : State → Bool
+never_idles s = false
+
+-- the next turn wants memory, which was refused
+abbrev pub IsMemory : StopReason → State → Type 0
+IsMemory reason s = (reason ≡ reasons.Memory) × (needs_memory s ≡ true)
+
+-- A run of n turns from s makes k of them and comes to s'. The reason is the first that holds for k turns, and where none
+-- does it is want of memory. For no fewer turns any held.
+pub record IsRun (idles : State → Bool) (n : ℕ) (s : State) (k : ℕ) (reason : StopReason) (s' : State) : Type 0 where
   pub state : s' ≡ after_turns k s
-  pub stops : stop_of n k s ≡ Some reason
-  pub goes_on : (j : ℕ) → j < k → stop_of n j s ≡ None
+  pub stops : MatchOption (stop_of idles n k s) (IsMemory reason s') (λ first. reason ≡ first)
+  pub goes_on : (j : ℕ) → j < k → stop_of idles n j s ≡ None

@@ -23,7 +23,7 @@ impl<A: Allocator> Model for Panel<A> {
 
     ghost Value = { State };
 
-    ghost view = { λ p. p.machine };
+    ghost view = { λ p. p.machine.visible };
 }
 
 impl<A: Allocator> Panel<A> {
@@ -55,7 +55,7 @@ impl<A: Allocator> Panel<A> {
 
     /// What the processor does between turns.
     fn mark(&self) -> Mark
-        ensures { result ≡ mark_of self.now.hardware.processor }
+        ensures { result ≡ mark_of self.now.processor }
     {
         if self.machine.is_halted() {
             Mark::Halted
@@ -86,8 +86,8 @@ impl<A: Allocator + Copy> Panel<A> {
     }
 
     /// EXAMINE.
-    fn examine(&self, alloc: A, address: u32, count: u32) -> Answer<A>
-        ensures { Acts self.now (Command.Examine address count) result self.now }
+    fn examine(&mut self, alloc: A, address: u32, count: u32) -> Answer<A>
+        ensures { Acts self.old (Command.Examine address count) result self.new }
     {
         if let Some(fault) = self.examine_refusal(address, count) {
             return Answer::Refused(fault);
@@ -95,12 +95,12 @@ impl<A: Allocator + Copy> Panel<A> {
         self.show(alloc, address, count)
     }
 
-    /// What so many words from an even address on show.
-    #[tactic(auto, using(crate::proofs::RangeLemmas::first_answers), unfolding(crate::specs::Commands::shown))]
-    fn show(&self, alloc: A, address: u32, count: u32) -> Answer<A>
+    /// Reads so many words from an even address on, and answers what they show.
+    #[tactic(auto, using(crate::proofs::RangeLemmas::first_answers), unfolding(crate::specs::Commands::examined))]
+    fn show(&mut self, alloc: A, address: u32, count: u32) -> Answer<A>
         requires some { 0 < count }
-        requires answer { all_answer address count self.now ≡ true }
-        ensures { Examines address count self.now result self.now }
+        requires answer { all_answer address count self.old ≡ true }
+        ensures { Examines address count self.old result self.new }
     {
         if count == 1 {
             let word = self.machine.examine(address);

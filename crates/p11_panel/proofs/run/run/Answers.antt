@@ -1,19 +1,30 @@
-use Rattle.std.proofs.Common.{arith, refl}
-use Rattle.p11_panel.proofs.RunLemmas.{no_turn, one_more, last_turn, all_made}
+use Rattle.std.proofs.Common.{◌≡◌, ◌+◌, arith, refl, subst, sym, ap, ◌∙◌}
+use Rattle.p11_cpu.specs.State.{State}
+use Rattle.p11_panel.specs.Runs.{never_idles}
+use Rattle.p11_panel.proofs.RunLemmas.{Goes, no_turn, goes_is, one_more, halting_turn, all_made, no_memory, needs_by}
 use Rattle.p11_panel.proofs.run.run.Goals as goal
 
 pub loop-made-init : goal.loop-made-init
-loop-made-init g c = record { turns = omega arith; goes = no_turn _ _ }
+loop-made-init g c = record { turns = omega arith; goes = no_turn _ _ _ }
+
+pub returns-then-is_err : goal.returns-then-is_err
+returns-then-is_err g c =
+    no_memory never_idles _ _ _ c.loop-made.machine.visible c.prepare_turn.new.self.visible c.loop-made-test.true refl c.prepare_turn.ensures.visible
+    (needs_by _ c.prepare_turn.result c.prepare_turn.ensures.needless (sym c.if-is_err.ensures.value)) c.loop-made.invariant.goes
 
 pub returns-in-Halted : goal.returns-in-Halted
-returns-in-Halted g c = last_turn _ _ _ _ _ _ _ c.loop-made-test.true c.loop-made.invariant.goes c.in-Halted.ensures.turn refl
+returns-in-Halted g c =
+    halting_turn never_idles _ _ _ c.prepare_turn.new.self.visible _ c.loop-made-test.true refl
+    (goes_is never_idles _ _ _ _ c.prepare_turn.new.self.visible c.prepare_turn.ensures.visible c.loop-made.invariant.goes) c.in-Halted.ensures.turn
 
 pub loop-made-preserved : goal.loop-made-preserved
 loop-made-preserved g c =
+    let turns : c.prepare_turn.new.self.visible.turns ≡ c.loop-made.machine.visible.turns = ap (λ (x : State). x.turns) c.prepare_turn.ensures.visible in
     record {
-      turns = omega (arith, c.turn.ensures.count, c.loop-made.invariant.turns);
-      goes = one_more _ _ _ _ _ c.loop-made-test.true c.loop-made.invariant.goes c.in-Ran.ensures.turn;
+      turns = omega (arith, c.turn.ensures.count, turns, c.loop-made.invariant.turns);
+      goes = one_more never_idles _ _ _ c.prepare_turn.new.self.visible _ c.loop-made-test.true refl
+          (goes_is never_idles _ _ _ _ c.prepare_turn.new.self.visible c.prepare_turn.ensures.visible c.loop-made.invariant.goes) c.in-Ran.ensures.turn;
     }
 
 pub returns : goal.returns
-returns g c = all_made _ _ _ _ (omega arith) c.loop-made.invariant.goes
+returns g c = all_made _ _ _ _ _ (omega arith) c.loop-made.invariant.goes
