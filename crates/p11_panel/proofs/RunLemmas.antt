@@ -102,11 +102,11 @@ no_memory idles n k s s' z h busy same needs goes =
       goes_on = goes.goes_on;
     }
 
-err_not_ok : {T E : Type 0} (e : E) → IsOk {T = T} (Err e) → ⊥
-err_not_ok e h = cc
+err_not_ok : (T : Type 0) {E : Type 0} (e : E) → IsOk {T = T} (Err e) → ⊥
+err_not_ok T e h = cc
 
 -- a call that fails was one that might
 pub needs_by : {T E : Type 0} (b : Bool) (r : Result T E) → (b ≡ false → IsOk r) → is_err r ≡ true → b ≡ true
 needs_by true r needless failed = refl
 needs_by false (Ok v) needless failed = cc
-needs_by false (Err e) needless failed = absurd (err_not_ok e (needless refl))
+needs_by {T} false (Err e) needless failed = absurd (err_not_ok T e (needless refl))

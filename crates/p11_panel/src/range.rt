@@ -10,6 +10,7 @@ use std::alloc::{AllocError, Allocator};
 fn push_within<A: Allocator>(words: &mut Vec<u16, A>, word: u16)
     requires { vec_len words.old < vec_capacity words.old }
     ensures items { words.new.items ≡ words.old.items ++ word ∷ [] }
+    ensures len { vec_len words.new ≡ vec_len words.old + 1 }
     ensures room { vec_capacity words.old ≤ vec_capacity words.new }
 {
     let _ = words.push(word);

@@ -1,5 +1,4 @@
 use Rattle.std.proofs.Common.{◌≡◌, ◌≤◌, ◌+◌, ◌∙◌, ◌++◌, ◌∷◌, [], List, ℕ, ap, sym, subst, arith, length, vec_len, vec_capacity}
-use Rattle.std.proofs.lemmas.List.{length_push}
 use Rattle.p11_panel.proofs.RangeLemmas.{all_answer_at, all_answer_kept, reads_more}
 use Rattle.p11_panel.specs.Ranges.{reads_at}
 use Rattle.p11_panel.proofs.panel.Panel.words_at.Goals as goal
@@ -13,6 +12,6 @@ loop-number-preserved g c =
     record {
       done = subst (λ (t : List ℕ). reads_at c.args.address (c.loop-number.number + 1) c.args.self.now ≡ (c.word_at-word.new.self, t)) (sym c.push_within.ensures.items) read;
       answer = all_answer_kept _ _ _ _ c.word_at-word.ensures.answers ∙ c.loop-number.invariant.answer;
-      size = ap length c.push_within.ensures.items ∙ length_push c.loop-number.words.items c.word_at-word.result ∙ ap (λ n. n + 1) c.loop-number.invariant.size;
+      size = omega (arith, c.push_within.ensures.len, c.loop-number.invariant.size);
       room = omega (arith, c.loop-number.invariant.room, c.push_within.ensures.room);
     }
