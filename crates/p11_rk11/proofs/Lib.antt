@@ -3,5 +3,6 @@ pub mod Init
 pub mod Kept
 pub mod Parts
 pub mod Places
+pub mod Reachable
 pub mod Turns
 pub mod Words

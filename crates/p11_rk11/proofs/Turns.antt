@@ -229,7 +229,7 @@ record AfterSeeks (turn n : ℕ) (s t : Rk11State) : Type 0 where
   first : (k : ℕ) → k < n → k < drive_count → drive_of t k ≡ sought turn (drive_of s k)
   rest : (k : ℕ) → n ≤ k → drive_of t k ≡ drive_of s k
 
-drive_put : (s : Rk11State) (r : Registers) (n : ℕ) (d : Option MountedDrive) → n < drive_count → (drive_of s n ≡ None → d ≡ None) → drive_of (with_registers_and_drive s n (r, d)) n ≡ d
+pub drive_put : (s : Rk11State) (r : Registers) (n : ℕ) (d : Option MountedDrive) → n < drive_count → (drive_of s n ≡ None → d ≡ None) → drive_of (with_registers_and_drive s n (r, d)) n ≡ d
 unfolding with_registers_and_drive with_drive drive_of
 drive_put s r n d lt none =
     rw (lt-ltb n drive_count lt)
@@ -240,7 +240,7 @@ drive_put s r n d lt none =
           ∙ sym (none (rw (lt-ltb n drive_count lt) (get_or_past s.drives n None beyond)))
     ])
 
-drive_left : (s : Rk11State) (r : Registers) (n k : ℕ) (d : Option MountedDrive) → (k ≡ n → ⊥) → drive_of (with_registers_and_drive s n (r, d)) k ≡ drive_of s k
+pub drive_left : (s : Rk11State) (r : Registers) (n k : ℕ) (d : Option MountedDrive) → (k ≡ n → ⊥) → drive_of (with_registers_and_drive s n (r, d)) k ≡ drive_of s k
 unfolding with_registers_and_drive with_drive drive_of
 drive_left s r n k d other =
     elim (cases_Bool (nat_lt n drive_count)) [

@@ -19,8 +19,8 @@ pub use errors::Errors;
 pub use function::Function;
 pub use laws::{
     control_status_shows_its_bits, due_turns_are_later, init_twice_is_init_once, memory_stays,
-    nothing_happens_before_due, number_of_drives, places_and_numbers, words_of_a_written_sector,
-    words_that_stay,
+    nothing_happens_before_due, number_of_drives, places_and_numbers,
+    running_transfers_have_a_place, words_of_a_written_sector, words_that_stay,
 };
 pub use memory::WordMemory;
 pub use mounted::PendingSeek;
