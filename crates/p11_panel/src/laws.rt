@@ -1,8 +1,24 @@
 //! Laws of the definitions, each a function that does nothing, whose contract is the law.
-ghost use Rattle.p11_panel.specs.Laws.{RunsHaveOneOutcome};
+ghost use Rattle.p11_panel.specs.Laws.{RunsHaveOneOutcome, CommandsHaveOneOutcome, ListsHaveOneOutcome};
+
+use std::alloc::Allocator;
 
 /// Two runs of the same number of turns from the same state, neither of which want of memory stopped, make the same number
 /// of turns, stop for the same reason, and end in the same state.
 pub fn a_run_has_one_outcome()
     ensures { RunsHaveOneOutcome }
 {}
+
+/// A command has one answer and one next state, where memory neither refused it nor stopped its run.
+pub fn a_command_has_one_outcome<A: Allocator>()
+    ensures { CommandsHaveOneOutcome A }
+{
+    a_run_has_one_outcome();
+}
+
+/// A list of commands has one list of answers and one last state, where memory refused and stopped none of them.
+pub fn a_list_has_one_outcome<A: Allocator>()
+    ensures { ListsHaveOneOutcome A }
+{
+    a_run_has_one_outcome();
+}

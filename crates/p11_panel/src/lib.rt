@@ -16,7 +16,7 @@ mod tests;
 
 pub use command::Command;
 pub use config::Config;
-pub use laws::a_run_has_one_outcome;
+pub use laws::{a_command_has_one_outcome, a_list_has_one_outcome, a_run_has_one_outcome};
 pub use p11_lines::{
     Answer, Fault, Line, Mark, NoMemory, Registers, StopReason, Words, line_of, parse_line,
 };

@@ -1,0 +1,69 @@
+-- One outcome of a command, and of a list of commands.
+use Rattle.std.proofs.Common.{◌≡◌, ◌≢◌, ◌≤◌, ◌<◌, ◌⊎◌, ℕ, Bool, Option, Some, None, MatchOption, List, [], ◌∷◌, All, refl, sym, ap, subst, ◌∙◌, inl, inr}
+use Rattle.std.proofs.lemmas.List.Elements.{All-head, All-tail}
+use Rattle.p11_lines.specs.declared.answer.Answer.{Answer}
+use Rattle.p11_lines.specs.declared.answer.Answer.TheVariants as answers
+use Rattle.p11_lines.specs.declared.answer.StopReason.{StopReason}
+use Rattle.p11_lines.specs.declared.answer.StopReason.TheVariants.{Memory}
+use Rattle.p11_lines.specs.declared.fault.Fault.{Fault}
+use Rattle.p11_lines.specs.declared.fault.Fault.TheVariants.{NoMemory}
+use Rattle.p11_cpu.specs.State.{State}
+use Rattle.p11_cpu.specs.Operator.{console_register, start_of, set_reg_of}
+use Rattle.p11_cpu.specs.declared.registers.ConsoleRegister.{ConsoleRegister}
+use Rattle.p11_panel.specs.declared.command.Command.{Command}
+use Rattle.p11_panel.specs.declared.command.Command.TheVariants as commands
+use Rattle.p11_panel.specs.Commands.{Acts, IsRefused, IsDone, Examines, Steps, examined, examine_fault, deposit_fault, start_fault, step_fault, registers_of}
+use Rattle.p11_panel.specs.Runs.{IsRun, never_idles}
+use Rattle.p11_panel.specs.Ranges.{deposited}
+use Rattle.p11_panel.specs.Play.{Plays}
+use Rattle.p11_panel.specs.Laws.{HadMemory, RunsHaveOneOutcome, CommandsHaveOneOutcome, ListsHaveOneOutcome}
+
+-- what nothing leaves open is the same both times
+done_once : {A : Type 0} (done answer other : Answer A) (after s' t' : State) → IsDone done after answer s' → IsDone done after other t' → (answer ≡ other) × (s' ≡ t')
+done_once done answer other after s' t' h k = (h.0 ∙ sym k.0, h.1 ∙ sym k.1)
+
+-- a command is refused both times, for one fault, or neither time
+either_once : {F : Type 0} (fault : Option F) (P Q : Type 0) (R T : F → Type 0) (G : Type 0) → (P → Q → G) → ((f : F) → R f → T f → G) → MatchOption fault P R → MatchOption fault Q T → G
+either_once None P Q R T G done refused h k = done h k
+either_once (Some f) P Q R T G done refused h k = refused f h k
+
+examines_once : {A : Type 0} (address n : ℕ) (s : State) (answer other : Answer A) (s' t' : State) → HadMemory answer → HadMemory other → Examines address n s answer s' → Examines address n s other t' → (answer ≡ other) × (s' ≡ t')
+examines_once address n s answer other s' t' m l (inl h) (inl k) = let same = sym h ∙ k in (ap (λ r. r.1) same, ap (λ r. r.0) same)
+examines_once address n s answer other s' t' m l (inl h) (inr k) = absurd (l.0 k.1.0)
+examines_once address n s answer other s' t' m l (inr h) k = absurd (m.0 h.1.0)
+
+steps_once : {A : Type 0} → RunsHaveOneOutcome → (n : ℕ) (s : State) (answer other : Answer A) (s' t' : State) → HadMemory answer → HadMemory other → Steps n s answer s' → Steps n s other t' → (answer ≡ other) × (s' ≡ t')
+steps_once {A} law n s answer other s' t' m l h k =
+    let run = law never_idles n s h.0 k.0 h.1 k.1 s' t' h.2 k.2
+    (λ e. m.1 h.0 s'.processor.registers.pc (h.3 ∙ ap (λ reason. answers.Stop reason h.0 s'.processor.registers.pc) e))
+    (λ e. l.1 k.0 t'.processor.registers.pc (k.3 ∙ ap (λ reason. answers.Stop reason k.0 t'.processor.registers.pc) e)) in
+    let made : ◌≡◌ {A = Answer A} (answers.Stop h.1 h.0 s'.processor.registers.pc) (answers.Stop h.1 k.0 s'.processor.registers.pc) = ap (λ made. answers.Stop h.1 made s'.processor.registers.pc) run.0 in
+    let why : ◌≡◌ {A = Answer A} (answers.Stop h.1 k.0 s'.processor.registers.pc) (answers.Stop k.1 k.0 s'.processor.registers.pc) = ap (λ reason. answers.Stop reason k.0 s'.processor.registers.pc) run.1 in
+    let where_to : ◌≡◌ {A = Answer A} (answers.Stop k.1 k.0 s'.processor.registers.pc) (answers.Stop k.1 k.0 t'.processor.registers.pc) = ap (λ (x : State). answers.Stop k.1 k.0 x.processor.registers.pc) run.2 in
+    (h.3 ∙ (made ∙ (why ∙ (where_to ∙ sym k.3))), run.2)
+
+pub acts_once : {A : Type 0} → RunsHaveOneOutcome → CommandsHaveOneOutcome A
+acts_once {A} law s (commands.Examine address n) answer other s' t' h k m l =
+    either_once (examine_fault address n s) _ _ _ _ _ (examines_once address n s answer other s' t' m l) (λ fault. done_once (answers.Refused fault) answer other s s' t') h k
+acts_once {A} law s (commands.Deposit address words) answer other s' t' h k m l =
+    either_once (deposit_fault address words s) _ _ _ _ _ (done_once answers.Done answer other (deposited address words s) s' t') (λ fault. done_once (answers.Refused fault) answer other s s' t') h k
+acts_once {A} law s (commands.Start address) answer other s' t' h k m l =
+    either_once (start_fault address) _ _ _ _ _ (done_once answers.Done answer other (start_of address s) s' t') (λ fault. done_once (answers.Refused fault) answer other s s' t') h k
+acts_once {A} law s (commands.Set number word) answer other s' t' h k m l =
+    either_once (console_register number) _ _ _ _ _ (done_once (answers.Refused _) answer other s s' t') (λ register. done_once answers.Done answer other (set_reg_of register word s) s' t') h k
+acts_once {A} law s (commands.Step n) answer other s' t' h k m l =
+    either_once (step_fault n s) _ _ _ _ _ (steps_once law n s answer other s' t' m l) (λ fault. done_once (answers.Refused fault) answer other s s' t') h k
+acts_once law s commands.Regs answer other s' t' h k m l = done_once (answers.Registers (registers_of s)) answer other s s' t' h k
+
+pub plays_once : {A : Type 0} → RunsHaveOneOutcome → ListsHaveOneOutcome A
+unfolding Plays
+plays_once law s [] [] [] s' t' h k m l = (refl, h ∙ sym k)
+plays_once law s [] [] (other ∷ others) s' t' h k m l = absurd k
+plays_once law s [] (answer ∷ given) others s' t' h k m l = absurd h
+plays_once law s (command ∷ rest) [] others s' t' h k m l = absurd h
+plays_once law s (command ∷ rest) (answer ∷ given) [] s' t' h k m l = absurd k
+plays_once {A} law s (command ∷ rest) (answer ∷ given) (other ∷ others) s' t' h k m l =
+    let first = acts_once law s command answer other h.0 k.0 h.1 k.1 (All-head HadMemory answer given m) (All-head HadMemory other others l) in
+    let P : State → Type 0 = λ x. Plays {A = A} x rest given s' in
+    let after = plays_once law k.0 rest given others s' t' (subst P first.1 h.2) k.2 (All-tail HadMemory answer given m) (All-tail HadMemory other others l) in
+    (ap (λ a. a ∷ given) first.0 ∙ ap (λ more. other ∷ more) after.0, after.1)
