@@ -1,5 +1,5 @@
 -- How the program ends: its exit status, and what it says.
-use Rattle.std.specs.Prelude.{ℕ, List, [], codes}
+use Rattle.std.specs.Prelude.{ℕ, Bool, true, false, ◌&&◌, not, List, [], codes, if◌then◌else◌}
 use Rattle.std.specs.String.{string_bytes}
 use Rattle.p11_panel.specs.declared.script.SessionFault.TheVariants.{Reading, Writing, TooLong}
 use Rattle.p11_run.specs.declared.ending.Cause.{Cause}
@@ -25,3 +25,20 @@ text_of NoMemory = codes "p11: no memory\n"
 text_of (Session Reading) = codes "p11: read fault\n"
 text_of (Session Writing) = codes "p11: write fault\n"
 text_of (Session TooLong) = codes "p11: script too long\n"
+
+abbrev pub is_help : Cause → Bool
+is_help Done = false
+is_help (Help text) = true
+is_help (Usage text) = false
+is_help NotUtf8 = false
+is_help BadSize = false
+is_help NoMemory = false
+is_help (Session fault) = false
+
+-- How it ends once its text was said, or could not be. The status is the cause's, whatever became of its text; but help that
+-- can't be said is a write fault, which is then said on standard error.
+unfoldable pub status_after : Cause → Bool → ℕ
+status_after cause said = if is_help cause && not said then status_of (Session Writing) else status_of cause
+
+unfoldable pub text_after : Cause → Bool → List ℕ
+text_after cause said = if is_help cause && not said then text_of (Session Writing) else []

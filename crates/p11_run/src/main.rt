@@ -8,7 +8,7 @@ mod settings;
 #[cfg(test)]
 mod tests;
 
-use crate::ending::{Cause, ending};
+use crate::ending::{Cause, ending, ending_after};
 use crate::settings::{Launch, settings};
 use p11_panel::{Panel, SessionFault, session};
 use std::fs::File;
@@ -20,15 +20,18 @@ fn main(rt: HostRuntime) -> ExitCode {
         Ok(()) => Cause::Done,
         Err(cause) => cause,
     };
-    let (status, text) = ending(&cause);
-    let said = match &cause {
-        Cause::Done => Ok(()),
-        Cause::Help(_) => rt.print(text),
-        _ => rt.eprint(text),
-    };
-    match said {
-        Ok(()) => ExitCode::from(status),
-        Err(_) => ExitCode::FAILURE,
+    let (status, rest) = ending_after(&cause, say(&rt, &cause));
+    let _ = rt.eprint(rest);
+    ExitCode::from(status)
+}
+
+/// Says why the program ends: help on standard output, and all else on standard error. Whether that could be written.
+fn say(rt: &HostRuntime, cause: &Cause) -> bool {
+    let (_, text) = ending(cause);
+    match cause {
+        Cause::Done => true,
+        Cause::Help(_) => rt.print(text).is_ok(),
+        _ => rt.eprint(text).is_ok(),
     }
 }
 

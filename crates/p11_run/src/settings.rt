@@ -1,3 +1,7 @@
+ghost use Rattle.std.specs.Prelude.{◌≡◌, ℕ, Option, IfOk, IfErr};
+ghost use Rattle.p11_run.specs.Launches.{AsksFor};
+ghost use Rattle.p11_run.specs.declared.ending.Cause.TheVariants as causes;
+
 use crate::ending::Cause;
 use clap::builder::ValueParser;
 use clap::error::ErrorKind;
@@ -62,16 +66,31 @@ fn matches<'a>(alloc: Global, words: &'a [String]) -> Result<ArgMatches<'a>, Err
     command(alloc)?.try_get_matches_from(words)
 }
 
-/// Reads the command line, whose first word is the program's name.
-pub fn settings<'a>(alloc: Global, words: &'a [String]) -> Result<Launch<'a>, Cause> {
+/// The sizes that two numbers ask for.
+fn sizes(memory: Option<u32>, lines: Option<u32>) -> Result<Config, Cause>
+    ensures ok { IfOk result (λ config. AsksFor memory lines config) }
+    ensures err { IfErr result (λ cause. cause ≡ causes.BadSize) }
+{
+    match Config::new(memory.unwrap_or(MEMORY), lines.unwrap_or(LINES)) {
+        Ok(config) => Ok(config),
+        Err(_) => Err(Cause::BadSize),
+    }
+}
+
+/// Reads the command line, whose first word is the program's name. The sizes are those that `Config::new` makes of the two
+/// numbers, 28 and 1,024 where they aren't given.
+pub fn settings<'a>(alloc: Global, words: &'a [String]) -> Result<Launch<'a>, Cause>
+    ensures { IfOk result (λ launch. (memory lines : Option ℕ) × AsksFor memory lines launch.config) }
+{
     let matches = match matches(alloc, words) {
         Ok(matches) => matches,
         Err(error) => return Err(cause_of(alloc, &error)),
     };
-    let kwords = matches.get_one::<u32>("memory").unwrap_or(MEMORY);
-    let lines = matches.get_one::<u32>("lines").unwrap_or(LINES);
-    let Ok(config) = Config::new(kwords, lines) else {
-        return Err(Cause::BadSize);
+    let memory = matches.get_one::<u32>("memory");
+    let lines = matches.get_one::<u32>("lines");
+    let config = match sizes(memory, lines) {
+        Ok(config) => config,
+        Err(cause) => return Err(cause),
     };
     let script = matches.get_str("SCRIPT").unwrap_or("");
     Ok(Launch { config, script })

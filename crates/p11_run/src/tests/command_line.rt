@@ -1,5 +1,5 @@
 // What the program answers to command lines, and how it ends.
-use crate::ending::{Cause, ending};
+use crate::ending::{Cause, ending, ending_after};
 use crate::settings::settings;
 use p11_panel::SessionFault;
 use std::alloc::{AllocError, Global};
@@ -122,4 +122,35 @@ fn each_ending_has_its_status_and_text(rt: HostRuntime) {
     assert_eq!(rt; ending(&writing), (1, "p11: write fault\n"));
     let long = Cause::Session(SessionFault::TooLong);
     assert_eq!(rt; ending(&long), (1, "p11: script too long\n"));
+}
+
+#[test]
+fn a_status_stays_where_its_text_is_lost(rt: HostRuntime) -> Result<(), Fail> {
+    let alloc = rt.alloc();
+    for said in [true, false] {
+        assert_eq!(rt; ending_after(&Cause::Done, said), (0, ""));
+        assert_eq!(rt; ending_after(&Cause::NotUtf8, said), (2, ""));
+        assert_eq!(rt; ending_after(&Cause::NoMemory, said), (3, ""));
+        for fault in [
+            SessionFault::Reading,
+            SessionFault::Writing,
+            SessionFault::TooLong,
+        ] {
+            assert_eq!(rt; ending_after(&Cause::Session(fault), said), (1, ""));
+        }
+        let Some(size) = cause(alloc, &["--memory", "6", "boot.p11"])? else {
+            return Err(Fail::from(AllocError));
+        };
+        assert_eq!(rt; ending_after(&size, said), (2, ""));
+        let Some(usage) = cause(alloc, &["--bogus"])? else {
+            return Err(Fail::from(AllocError));
+        };
+        assert_eq!(rt; ending_after(&usage, said), (2, ""));
+    }
+    let Some(help) = cause(alloc, &["--help"])? else {
+        return Err(Fail::from(AllocError));
+    };
+    assert_eq!(rt; ending_after(&help, true), (0, ""));
+    assert_eq!(rt; ending_after(&help, false), (1, "p11: write fault\n"));
+    Ok(())
 }
