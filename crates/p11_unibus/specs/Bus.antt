@@ -2,25 +2,65 @@
 -- leaves, and what a read leaves. All that references of a program and of the operator do follows from these three. They
 -- are told the number of the turn, since a device's register may show it. An odd address holds no word, so it answers
 -- nowhere.
-use Rattle.std.specs.Prelude.{ℕ, Bool, true, false, Option, Some, None, is_some, Result, Ok, Err, if◌then◌else◌}
+use Rattle.std.specs.Prelude.{ℕ, Bool, true, false, Option, Some, None, is_some, Result, Ok, Err, ◌==◌, if◌then◌else◌}
+use Rattle.p11_kw11.specs.LineClock.{clock_word, clock_after_write}
+use Rattle.p11_dl11.specs.LineEvents.{line_word, line_after_read, line_after_write}
 use Rattle.p11_rk11.specs.Memory.{has_word, word_at, stored}
 use Rattle.p11_unibus.specs.declared.bytes.TimeOut.{TimeOut}
+use Rattle.p11_unibus.specs.declared.register.Register.{Register}
+use Rattle.p11_unibus.specs.declared.register.Register.TheVariants.{Clock, Line, Switches}
 use Rattle.p11_unibus.specs.Bytes.{even, byte_at, with_byte}
+use Rattle.p11_unibus.specs.Registers.{register_at}
 use Rattle.p11_unibus.specs.State.{BusState}
+
+-- REGISTERS
+
+-- the word that a register shows in this turn
+unfoldable pub register_word : ℕ → Register → BusState → ℕ
+register_word turn (Clock r) b = clock_word b.clock
+register_word turn (Line r) b = line_word r b.line
+register_word turn Switches b = b.switches
+
+-- the bus once a word is written to a register in this turn; the switches can't be written
+unfoldable pub register_changed : ℕ → Register → ℕ → BusState → BusState
+register_changed turn (Clock r) word b = record b { clock = clock_after_write word b.clock }
+register_changed turn (Line r) word b = record b { line = line_after_write turn r word b.line }
+register_changed turn Switches word b = b
+
+-- the bus once a register is read
+unfoldable pub register_after_read : Register → BusState → BusState
+register_after_read (Clock r) b = b
+register_after_read (Line r) b = record b { line = line_after_read r b.line }
+register_after_read Switches b = b
+
+-- the same at an address where a register stands or none does
+abbrev pub word_there : ℕ → Option Register → BusState → Option ℕ
+word_there turn None b = None
+word_there turn (Some r) b = Some (register_word turn r b)
+
+abbrev pub changed_there : ℕ → Option Register → ℕ → BusState → BusState
+changed_there turn None word b = b
+changed_there turn (Some r) word b = register_changed turn r word b
+
+abbrev pub read_there : Option Register → BusState → BusState
+read_there None b = b
+read_there (Some r) b = register_after_read r b
 
 -- THE ADDRESS SPACE
 
 -- the word that shows at an address in this turn, or no answer; looking changes nothing
 unfoldable pub see : ℕ → ℕ → BusState → Option ℕ
-see turn pa b = if has_word b.memory pa then Some (word_at b.memory pa) else None
+see turn pa b = if has_word b.memory pa then Some (word_at b.memory pa) else word_there turn (register_at pa) b
 
 -- the bus once a word is written at an address in this turn; where nothing answers it stays
 unfoldable pub change : ℕ → ℕ → ℕ → BusState → BusState
-change turn pa word b = if has_word b.memory pa then record b { memory = stored b.memory pa word } else b
+change turn pa word b =
+    if has_word b.memory pa then record b { memory = stored b.memory pa word }
+    else changed_there turn (register_at pa) word b
 
--- the bus once the word at an address is read: a read of memory leaves all as it is
+-- the bus once the word at an address is read; where nothing answers it stays
 unfoldable pub after_read : ℕ → BusState → BusState
-after_read pa b = b
+after_read pa b = if has_word b.memory pa then b else read_there (register_at pa) b
 
 -- whether a word shows at an address in this turn
 unfoldable pub answers : ℕ → ℕ → BusState → Bool
@@ -63,7 +103,13 @@ write_word_of turn pa word b = (change turn pa word b, answered_or time_out (ans
 unfoldable pub read_byte_of : ℕ → ℕ → BusState → BusState × Result ℕ TimeOut
 read_byte_of turn pa b = half_of pa (read_word_of turn (even pa) b)
 
--- a write of a byte: the word that shows is written with that byte replaced
+-- the high byte of the transmitter buffer
+abbrev pub nothing_there : ℕ
+nothing_there = 0o777567
+
+-- A write of a byte: the word that shows is written with that byte replaced. At the high byte of the transmitter buffer
+-- it is answered and does nothing, so that no character is sent.
 unfoldable pub write_byte_of : ℕ → ℕ → ℕ → BusState → BusState × Result (Unit {0}) TimeOut
 write_byte_of turn pa byte b =
-    replaced_or time_out (see turn (even pa) b) (λ word. change turn (even pa) (with_byte pa byte word) b) b
+    if pa == nothing_there then (b, Ok tt)
+    else replaced_or time_out (see turn (even pa) b) (λ word. change turn (even pa) (with_byte pa byte word) b) b

@@ -1,4 +1,12 @@
 pub mod Bytes
 pub mod State
+pub mod Registers
 pub mod Bus
+pub mod Acts
+pub mod Requests
+pub mod Events
+pub mod Prepared
+pub mod Device
+pub mod DeviceLaws
+pub mod Devices
 pub mod Laws

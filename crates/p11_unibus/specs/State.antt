@@ -1,21 +1,36 @@
 -- What stands on the Unibus, and what contracts see of it.
-use Rattle.std.specs.Prelude.{ℕ, ◌*◌, replicate}
+use Rattle.std.specs.Prelude.{ℕ, ◌*◌, List, [], replicate}
+use Rattle.p11_kw11.specs.LineClock.{LineClock, new_clock}
+use Rattle.p11_dl11.specs.LineState.{LineState}
+use Rattle.p11_dl11.specs.LineEvents.{new_line}
 use Rattle.p11_rk11.specs.Memory.{Words}
 
--- memory: the words from address 0 up
+-- memory, as the words from address 0 up; the line clock; the console line; the switch register; and the characters that
+-- were typed since they were last taken
 pub record BusState : Type 0 where
   pub memory : Words
+  pub clock : LineClock
+  pub line : LineState
+  pub switches : ℕ
+  pub typed : List ℕ
 
--- what contracts see of a bus: all that a program or the operator may see of it
+-- the memory that was found for the acts of a turn: room for so many typed characters
+pub record Prepared : Type 0 where
+  pub room : ℕ
+
+-- what contracts see of a bus: all that a program or the operator may see of it, and beside it what is prepared
 pub record UnibusView : Type 0 where
   pub visible : BusState
+  pub prepared : Prepared
 
 -- so many thousand (1,024) words of zeros, from address 0
 unfoldable pub new_memory : ℕ → Words
 new_memory kwords = replicate (kwords * 1024) 0
 
+-- a new machine's bus
 unfoldable pub new_bus : ℕ → BusState
-new_bus kwords = record { memory = new_memory kwords }
+new_bus kwords =
+    record { memory = new_memory kwords; clock = new_clock; line = new_line; switches = 0; typed = [] }
 
 -- the first bus address of the I/O page, where memory ends at the latest
 abbrev pub io_page : ℕ

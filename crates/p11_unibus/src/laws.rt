@@ -1,9 +1,13 @@
-ghost use Rattle.std.specs.Prelude.{◌≡◌, ◌%◌, ◌≤◌, false};
+ghost use Rattle.std.specs.Prelude.{◌≡◌, ◌%◌, ◌≤◌, ◌<◌, ℕ, false};
+ghost use Rattle.p11_unibus.specs.Acts.{bus_after_turn, is_due};
 ghost use Rattle.p11_rk11.specs.Memory.{has_word};
 ghost use Rattle.p11_unibus.specs.Bytes.{byte_at, with_byte};
 ghost use Rattle.p11_unibus.specs.Bus.{answers};
-ghost use Rattle.p11_unibus.specs.Laws.{ShowsThere, StaysElsewhere};
+ghost use Rattle.p11_unibus.specs.Laws.{GrantsNoneLower, ShowsThere, StaysElsewhere};
 ghost use Rattle.p11_unibus.specs.State.{BusState, io_page, new_memory};
+
+use crate::source::Source;
+use p11_psw::Priority;
 
 /// Memory of 124 thousand (1,024) words at most has no word on the I/O page.
 #[tactic(auto, unfolding(crate::specs::State::new_memory, p11_rk11::specs::Memory::has_word))]
@@ -19,15 +23,28 @@ pub fn a_byte_is_read_back(address: u32, byte: u16, word: u16)
 {}
 
 /// An odd address answers nowhere.
-#[tactic(auto, unfolding(crate::specs::Bus::answers, crate::specs::Bus::see, p11_rk11::specs::Memory::has_word))]
+#[tactic(auto, unfolding(crate::specs::Bus::answers, crate::specs::Bus::see, p11_rk11::specs::Memory::has_word, crate::specs::Registers::register_at, p11_kw11::specs::LineClock::register_at, p11_dl11::specs::Addresses::register_at))]
 pub fn an_odd_address_answers_nowhere(turn: u64, address: u32)
     requires { address % 2 ≡ 1 }
     ensures { (b : BusState) → answers turn address b ≡ false }
 {}
 
 /// A word that is written to memory shows there, and every other address shows what it did.
-#[tactic(auto, unfolding(crate::specs::Bus::change, crate::specs::Bus::see, p11_rk11::specs::Memory::has_word, p11_rk11::specs::Memory::word_at, p11_rk11::specs::Memory::stored))]
+#[tactic(auto, using(crate::proofs::Registers::memory_shows_in_no_register), unfolding(crate::specs::Bus::change, crate::specs::Bus::see, p11_rk11::specs::Memory::has_word, p11_rk11::specs::Memory::word_at, p11_rk11::specs::Memory::stored))]
 pub fn a_word_written_to_memory_shows(turn: u64, address: u32, word: u16)
     ensures there { ShowsThere turn address word }
     ensures elsewhere { StaysElsewhere turn address word }
+{}
+
+/// Of the requests above a priority none is of a higher level than the one that is granted, and one is granted where any
+/// stands.
+#[tactic(auto, unfolding(crate::specs::Requests::highest_request))]
+pub fn the_highest_request_is_granted(source: Source, priority: Priority)
+    ensures { GrantsNoneLower source priority }
+{}
+
+/// While nothing is due, a later turn leaves the bus as it is.
+#[tactic(auto, unfolding(crate::specs::Acts::bus_after_turn, crate::specs::Acts::is_due, crate::specs::Acts::with_typed, p11_dl11::specs::LineEvents::line_after_turn, p11_dl11::specs::ReceiverEvents::receiver_after_turn, p11_dl11::specs::ReceiverEvents::receiver_due, p11_dl11::specs::TransmitterEvents::transmitter_after_turn, p11_dl11::specs::TransmitterEvents::transmitter_due, p11_dl11::specs::TransmitterEvents::typed_in))]
+pub fn nothing_happens_where_nothing_is_due()
+    ensures { (b : BusState) (turn later : ℕ) → turn < later → is_due turn b ≡ false → bus_after_turn later b ≡ b }
 {}

@@ -1,0 +1,30 @@
+-- What the operator and INIT do to the devices.
+use Rattle.std.specs.Prelude.{ℕ, [], Result}
+use Rattle.p11_kw11.specs.LineClock.{clock_after_init, clock_after_tick}
+use Rattle.p11_dl11.specs.LineState.{LineState}
+use Rattle.p11_dl11.specs.LineEvents.{line_after_init, line_after_key}
+use Rattle.p11_dl11.specs.declared.line.KeysFull.{KeysFull}
+use Rattle.p11_unibus.specs.State.{BusState}
+
+-- INIT: each device as its own crate says; memory, switches and typed characters stay
+unfoldable pub bus_after_init : BusState → BusState
+bus_after_init b = record b { clock = clock_after_init b.clock; line = line_after_init b.line }
+
+abbrev pub with_line : BusState → LineState × Result (Unit {0}) KeysFull → BusState × Result (Unit {0}) KeysFull
+with_line b (l, outcome) = (record b { line = l }, outcome)
+
+-- a key is pressed, which is refused where as many wait as may
+unfoldable pub bus_after_key : ℕ → BusState → BusState × Result (Unit {0}) KeysFull
+bus_after_key key b = with_line b (line_after_key key b.line)
+
+-- the line ticks
+unfoldable pub bus_after_tick : BusState → BusState
+bus_after_tick b = record b { clock = clock_after_tick b.clock }
+
+-- the switches are set
+unfoldable pub bus_after_switches : ℕ → BusState → BusState
+bus_after_switches word b = record b { switches = word }
+
+-- the typed characters are taken
+unfoldable pub bus_after_take : BusState → BusState
+bus_after_take b = record b { typed = [] }

@@ -1,0 +1,75 @@
+ghost use Rattle.std.specs.Prelude.{◌≡◌, ◌==◌, ◌≤◌, ◌^◌};
+ghost use Rattle.p11_unibus.specs.Bus.{nothing_there, read_byte_of, read_word_of, write_byte_of, write_word_of};
+
+use crate::bytes::{TimeOut, byte_of, replace_byte, word_of};
+use crate::unibus::Unibus;
+use std::alloc::Allocator;
+
+/// The high byte of the transmitter buffer, where a byte that is written does nothing.
+const NOTHING_THERE: u32 = 0o777567;
+
+/// Whether a byte that is written at an address does nothing.
+pub fn is_nothing_there(address: u32) -> bool
+    ensures { result ≡ (address == nothing_there) }
+{
+    address == NOTHING_THERE
+}
+
+impl<A: Allocator> Unibus<A> {
+    /// Reads the word at an address in this turn.
+    #[tactic(auto, unfolding(crate::specs::Bus::read_word_of))]
+    pub fn read_word(&mut self, turn: u64, address: u32) -> Result<u16, TimeOut>
+        requires { turn ≤ 2 ^ 62 }
+        ensures { read_word_of turn address self.old.visible ≡ (self.new.visible, result) }
+    {
+        match self.read(turn, address) {
+            Some(word) => Ok(word),
+            None => Err(TimeOut),
+        }
+    }
+
+    /// Writes a word at an address in this turn.
+    #[tactic(auto, unfolding(crate::specs::Bus::write_word_of))]
+    pub fn write_word(&mut self, turn: u64, address: u32, word: u16) -> Result<(), TimeOut>
+        requires { turn ≤ 2 ^ 62 }
+        ensures { write_word_of turn address word self.old.visible ≡ (self.new.visible, result) }
+    {
+        if self.write(turn, address, word) {
+            Ok(())
+        } else {
+            Err(TimeOut)
+        }
+    }
+
+    /// Reads the byte at an address in this turn: half of the word that is read.
+    #[tactic(auto, unfolding(crate::specs::Bus::read_byte_of))]
+    pub fn read_byte(&mut self, turn: u64, address: u32) -> Result<u16, TimeOut>
+        requires { turn ≤ 2 ^ 62 }
+        ensures { read_byte_of turn address self.old.visible ≡ (self.new.visible, result) }
+    {
+        match self.read_word(turn, word_of(address)) {
+            Ok(word) => Ok(byte_of(address, word)),
+            Err(error) => Err(error),
+        }
+    }
+
+    /// Writes a byte, the low one of `byte`, at an address in this turn: the word that shows there, with that byte
+    /// replaced. At 777567, the high byte of the transmitter buffer, it is answered and does nothing.
+    #[tactic(auto, unfolding(crate::specs::Bus::write_byte_of))]
+    pub fn write_byte(&mut self, turn: u64, address: u32, byte: u16) -> Result<(), TimeOut>
+        requires { turn ≤ 2 ^ 62 }
+        ensures { write_byte_of turn address byte self.old.visible ≡ (self.new.visible, result) }
+    {
+        if is_nothing_there(address) {
+            return Ok(());
+        }
+        let even = word_of(address);
+        match self.see(turn, even) {
+            Some(word) => {
+                self.write(turn, even, replace_byte(address, byte, word));
+                Ok(())
+            }
+            None => Err(TimeOut),
+        }
+    }
+}

@@ -1,0 +1,38 @@
+ghost use Rattle.std.specs.Prelude.{◌≡◌};
+ghost use Rattle.p11_unibus.specs.Registers.{register_at};
+
+use p11_dl11::Register as LineRegister;
+use p11_kw11::Register as ClockRegister;
+
+/// The bus address of the switch register.
+const SWITCHES: u32 = 0o777570;
+
+/// A register on the I/O page.
+#[derive(Clone, Copy, Debug, PartialEq, Eq)]
+pub enum Register {
+    /// One of the line clock's.
+    Clock(ClockRegister),
+    /// One of the console line's.
+    Line(LineRegister),
+    /// The operator's switches, 777570, which a program can't write.
+    Switches,
+}
+
+impl Register {
+    /// The register that stands at a bus address of 18 bits, if one does.
+    #[tactic(auto, unfolding(crate::specs::Registers::register_at))]
+    pub fn at(address: u32) -> Option<Register>
+        ensures { result ≡ register_at address }
+    {
+        if let Some(register) = ClockRegister::at(address) {
+            return Some(Register::Clock(register));
+        }
+        if let Some(register) = LineRegister::at(address) {
+            return Some(Register::Line(register));
+        }
+        match address {
+            SWITCHES => Some(Register::Switches),
+            _ => None,
+        }
+    }
+}

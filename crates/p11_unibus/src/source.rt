@@ -1,0 +1,41 @@
+ghost use Rattle.std.specs.Prelude.{◌≡◌, Some};
+ghost use Rattle.p11_psw.specs.Vectors.{vector_level};
+ghost use Rattle.p11_unibus.specs.Requests.{source_level, source_vector};
+
+use p11_psw::{Priority, Vector};
+
+/// What requests interrupts.
+#[derive(Clone, Copy, Debug, PartialEq, Eq)]
+pub enum Source {
+    /// The line clock.
+    Clock,
+    /// The console line's receiver.
+    Receiver,
+    /// The console line's transmitter.
+    Transmitter,
+}
+
+impl Source {
+    /// The vector through which it interrupts.
+    pub fn vector(self) -> Vector
+        ensures { result ≡ source_vector self }
+    {
+        match self {
+            Source::Clock => Vector::Clock,
+            Source::Receiver => Vector::Receiver,
+            Source::Transmitter => Vector::Transmitter,
+        }
+    }
+
+    /// The level at which it interrupts, which is that of its vector.
+    pub fn level(self) -> Priority
+        ensures level { result ≡ source_level self }
+        ensures vector { vector_level (source_vector self) ≡ Some result }
+    {
+        match self {
+            Source::Clock => Priority::Level6,
+            Source::Receiver => Priority::Level4,
+            Source::Transmitter => Priority::Level4,
+        }
+    }
+}
