@@ -1,7 +1,7 @@
 -- Proofs of the laws of devices, for the line clock and the console line.
-use Rattle.std.proofs.Common.{rules, ◌≡◌, ℕ, ◌∷◌, [], arith, refl, ◌==◌}
+use Rattle.std.proofs.Common.{rules, ◌≡◌, ℕ, ◌∷◌, [], arith, refl}
 use Rattle.std.proofs.lemmas.Grind.{common_steps}
-use Rattle.std.specs.Prelude.{is_some, List, Option}
+use Rattle.std.specs.Prelude.{is_some}
 use Rattle.p11_kw11.specs.LineClock as clock
 use Rattle.p11_dl11.specs.Addresses as line
 use Rattle.p11_dl11.specs.DueTurns.{IsBefore, IsNotAfter}
