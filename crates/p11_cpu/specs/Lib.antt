@@ -15,3 +15,4 @@ pub mod Instructions
 pub mod Services
 pub mod Turns
 pub mod Operator
+pub mod Console

@@ -4,6 +4,7 @@
 //! `Instructions.antt` the list of moves of each instruction.
 #![tactic(auto)]
 
+mod bus;
 mod double_operand;
 mod hardware;
 mod instructions;

@@ -1,0 +1,52 @@
+-- What the operator does to the devices between turns, and sees of them. It goes through the bus.
+use Rattle.std.specs.Prelude.{ℕ, Bool, not, ◌&&◌, is_some, Result}
+use Rattle.p11_psw.specs.declared.priority.Priority.{Priority}
+use Rattle.p11_dl11.specs.ReceiverEvents.{receiver_room}
+use Rattle.p11_dl11.specs.declared.line.KeysFull.{KeysFull}
+use Rattle.p11_unibus.specs.declared.devices.BusDevices.{BusDevices}
+use Rattle.p11_unibus.specs.Acts.{is_due}
+use Rattle.p11_unibus.specs.Devices.{devices_of}
+use Rattle.p11_unibus.specs.Events.{bus_after_key, bus_after_tick, bus_after_switches, bus_after_take}
+use Rattle.p11_unibus.specs.Requests.{highest_request}
+use Rattle.p11_unibus.specs.State.{BusState}
+use Rattle.p11_cpu.specs.State.{State, HardwareState, with_bus}
+
+-- whether no request stands above a priority
+abbrev pub no_request : Priority → BusState → Bool
+no_request priority b = not (is_some (highest_request priority b))
+
+-- whether the machine idles: the processor waits, no device is due at a later turn, and no request stands above the
+-- processor's priority
+unfoldable pub is_idle : State → Bool
+is_idle s = (s.processor.waiting && not (is_due s.turns s.bus)) && no_request s.processor.status.priority s.bus
+
+-- the typed characters are taken
+unfoldable pub take_typed_of : State → State
+take_typed_of s = record s { bus = bus_after_take s.bus }
+
+abbrev pub keyed : State → BusState × Result (Unit {0}) KeysFull → State × Result (Unit {0}) KeysFull
+keyed s (b, outcome) = (record s { bus = b }, outcome)
+
+abbrev pub hardware_keyed :
+    HardwareState → BusState × Result (Unit {0}) KeysFull → HardwareState × Result (Unit {0}) KeysFull
+hardware_keyed h (b, outcome) = (with_bus b h, outcome)
+
+-- a key is pressed, which is refused where as many wait as may
+unfoldable pub key_of : ℕ → State → State × Result (Unit {0}) KeysFull
+key_of key s = keyed s (bus_after_key key s.bus)
+
+-- how many more keys may wait
+unfoldable pub room_of : State → ℕ
+room_of s = receiver_room s.bus.line.receiver
+
+-- the line ticks
+unfoldable pub tick_of : State → State
+tick_of s = record s { bus = bus_after_tick s.bus }
+
+-- the switches are set
+unfoldable pub set_switches_of : ℕ → State → State
+set_switches_of word s = record s { bus = bus_after_switches word s.bus }
+
+-- what is shown of the devices
+unfoldable pub machine_devices_of : State → BusDevices
+machine_devices_of s = devices_of s.turns s.bus
