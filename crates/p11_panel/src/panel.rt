@@ -26,7 +26,7 @@ impl<A: Allocator> Model for Panel<A> {
     ghost view = { λ p. p.machine.visible };
 }
 
-impl<A: Allocator> Panel<A> {
+impl<A: Allocator + Copy> Panel<A> {
     /// A new machine of these sizes: zeros everywhere. The only error is want of memory.
     pub fn new(alloc: A, config: Config) -> Result<Self, NoMemory>
         ensures { IfOk result (λ p. p ≡ new_machine config.kwords) }
@@ -34,7 +34,9 @@ impl<A: Allocator> Panel<A> {
         let machine = Machine::new(alloc, config.kwords(), config.lines())?;
         Ok(Panel { machine })
     }
+}
 
+impl<A: Allocator> Panel<A> {
     /// What the processor shows of itself.
     #[tactic(auto, unfolding(crate::specs::Commands::registers_of))]
     fn registers(&self) -> Registers
