@@ -7,6 +7,5 @@ pub mod Requests
 pub mod Events
 pub mod Prepared
 pub mod Device
-pub mod DeviceLaws
 pub mod Devices
 pub mod Laws

@@ -1,0 +1,5 @@
+use Rattle.p11_unibus.proofs.DeviceLaws.{line_is_due_later}
+use Rattle.p11_unibus.proofs.device.Dl11Device.is_due_later.Goals as goal
+
+pub returns : goal.returns
+returns g c = line_is_due_later
