@@ -1,3 +1,4 @@
+pub mod Escapes
 pub mod Lists
 pub mod Numbers
 pub mod Numerals

@@ -1,12 +1,13 @@
 -- What has been written so far, and what is left.
-use Rattle.std.proofs.Common.{◌≡◌, ◌≤◌, ◌-◌, ◌+◌, ◌*◌, ◌%◌, ◌<◌, get_or, add-one, drop-cons, arith, ℕ, List, [], ◌++◌, length, take, drop, Option, Some, None, refl, sym, ap, subst, ◌∙◌, append_assoc, append-nil, take-append-drop}
+use Rattle.std.proofs.Common.{◌≡◌, ◌≤◌, ◌-◌, ◌+◌, ◌*◌, ◌%◌, ◌<◌, get_or, add-one, drop-cons, arith, ℕ, List, [], ◌++◌, length, take, drop, Option, Some, None, refl, sym, ap, subst, ◌∙◌, append_assoc, append-nil, take-append-drop, codes, ◌∷◌}
 use Rattle.std.proofs.lemmas.List.{nil_from_length, take_all, drop_all, length-drop, length-append}
 use Rattle.std.specs.Io.KnownBytes.{Appends, Keeps}
 use Rattle.std.proofs.KnownBytes.{Appends-nil, Appends-trans}
 use Rattle.std.specs.List.{flat_map}
 use Rattle.std.specs.Prelude.{Result, Ok, Err, OnOk, OnErr, false}
 use Rattle.std.specs.Result.{is_ok}
-use Rattle.p11_lines.specs.AnswerText.{six_octals, exam_text, exam_texts}
+use Rattle.p11_lines.specs.AnswerText.{six_octals, exam_text, exam_texts, typed_text}
+use Rattle.p11_lines.specs.Escapes.{escaped}
 use Rattle.p11_lines.specs.Written.{Wrote, AppendsFront}
 
 pub Wrote-none : (a : Option (List ℕ)) (text : List ℕ) → Wrote a a text text
@@ -175,3 +176,36 @@ OnErr-map (Err e) f p = f p
 pub OnOk-map : {T E P Q : Type 0} (r : Result T E) → (P → Q) → OnOk r P → OnOk r Q
 OnOk-map (Ok v) f p = f p
 OnOk-map (Err e) f p = tt
+
+-- a piece, and one behind it
+pub Wrote-then : (a b c : Option (List ℕ)) (kept piece next now_kept then_kept : List ℕ) → Wrote a b (kept ++ piece) now_kept → Wrote b c (now_kept ++ next) then_kept → Wrote a c (kept ++ (piece ++ next)) then_kept
+Wrote-then a b c kept piece next now_kept then_kept first second =
+    Wrote-trans a b c (kept ++ (piece ++ next)) (now_kept ++ next) then_kept
+    (subst (λ (t : List ℕ). Wrote a b t (now_kept ++ next)) (append_assoc kept piece next) (Wrote-wider a b (kept ++ piece) now_kept next first)) second
+
+-- a front of the piece, or of the one behind it
+pub AppendsFront-first : (a b : Option (List ℕ)) (kept piece next : List ℕ) → AppendsFront a b (kept ++ piece) → AppendsFront a b (kept ++ (piece ++ next))
+AppendsFront-first a b kept piece next first =
+    subst (λ (t : List ℕ). AppendsFront a b t) (append_assoc kept piece next) (AppendsFront_wider a b (kept ++ piece) next first)
+
+pub AppendsFront-then : (a b c : Option (List ℕ)) (kept piece next now_kept : List ℕ) → Wrote a b (kept ++ piece) now_kept → AppendsFront b c (now_kept ++ next) → AppendsFront a c (kept ++ (piece ++ next))
+AppendsFront-then a b c kept piece next now_kept first second =
+    AppendsFront-trans a b c (kept ++ (piece ++ next)) (now_kept ++ next)
+    (subst (λ (t : List ℕ). Wrote a b t (now_kept ++ next)) (append_assoc kept piece next) (Wrote-wider a b (kept ++ piece) now_kept next first)) second
+
+-- the line of the typed bytes
+pub typed_text-none : (typed : List ℕ) → length typed ≡ 0 → typed_text typed ≡ []
+unfolding typed_text
+typed_text-none [] none = refl
+typed_text-none (byte ∷ typed) none = absurd (omega (arith, none))
+
+pub typed_text-some : (typed : List ℕ) → 0 < length typed → typed_text typed ≡ codes "TTY " ++ (escaped typed ++ codes "\n")
+unfolding typed_text
+typed_text-some [] some = absurd (omega (arith, some))
+typed_text-some (byte ∷ typed) some = refl
+
+-- no line where nothing was typed
+pub Wrote-untyped : (a : Option (List ℕ)) (kept typed : List ℕ) → length typed ≡ 0 → Wrote a a (kept ++ typed_text typed) kept
+Wrote-untyped a kept typed none =
+    let nothing : kept ++ typed_text typed ≡ kept = ap (λ (t : List ℕ). kept ++ t) (typed_text-none typed none) ∙ append-nil kept in
+    subst (λ (t : List ℕ). Wrote a a t kept) (sym nothing) (Wrote-none a kept)

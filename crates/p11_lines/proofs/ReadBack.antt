@@ -1,14 +1,16 @@
 -- The text of a line reads as the line.
-use Rattle.std.proofs.Common.{◌≡◌, ℕ, suc, ◌≤◌, true, false, not, nat_le, List, [], ◌∷◌, ◌++◌, length, map, refl, ap, ◌∙◌, arith, append-nil, Some, All, codes}
+use Rattle.std.proofs.Common.{◌≡◌, ℕ, suc, ◌<◌, ◌≤◌, true, false, not, nat_le, List, [], ◌∷◌, ◌++◌, length, map, refl, ap, ◌∙◌, arith, append-nil, Some, All, codes}
 use Rattle.std.specs.List.{flat_map, list_all}
 use Rattle.std.specs.Fmt.{decimal}
 use Rattle.std.proofs.lemmas.Bool.{not-true}
 use Rattle.std.proofs.lemmas.Bool.Decides.{nat_tests}
 use Rattle.std.proofs.lemmas.List.Sums.{AllPass-from_list_all}
 use Rattle.p11_lines.specs.declared.line.Line.{Line}
-use Rattle.p11_lines.specs.declared.line.Line.TheVariants.{Examine, Deposit, Start, Set, Step, Regs}
-use Rattle.p11_lines.specs.Grammar.{is_blank, words_of, address_from, word_from, all_words_from, examine_from, deposit_from, start_from, set_from, step_from, regs_from, line_from_words, line_from}
+use Rattle.p11_lines.specs.declared.line.Line.TheVariants.{Examine, Deposit, Start, Key, Tick, Switches, Set, Step, Continue, Regs, Device}
+use Rattle.p11_lines.specs.Grammar.{is_blank, words_of, address_from, word_from, all_words_from, examine_from, deposit_from, start_from, key_from, plain_from, switches_from, set_from, turns_from, line_from_words, line_from}
 use Rattle.p11_lines.specs.LineText.{octal, line_text, FitsCount, FitsGrammar}
+use Rattle.p11_lines.specs.Escapes.{escaped}
+use Rattle.p11_lines.proofs.Escapes.{bytes_from-escaped, graphs_of-escaped, some-escaped}
 use Rattle.p11_lines.proofs.Parts.{words_of-word, words_of-last}
 use Rattle.p11_lines.proofs.Numbers.{number_from-Writes, graphs_from-AllDigits, octal-Writes, decimal-Writes, count_from-decimal}
 
@@ -82,9 +84,32 @@ words_of-step turns fits =
     words_of-word (codes "step") 32 (decimal turns) (graphs_from-test (codes "step") refl) (omega arith) refl
     ∙ ap (λ (ws : List (List ℕ)). codes "step" ∷ ws) (words_of-decimal turns fits.1)
 
+words_of-continue : (turns : ℕ) → FitsCount turns → words_of (codes "continue " ++ decimal turns) ≡ codes "continue" ∷ decimal turns ∷ []
+words_of-continue turns fits =
+    words_of-word (codes "continue") 32 (decimal turns) (graphs_from-test (codes "continue") refl) (omega arith) refl
+    ∙ ap (λ (ws : List (List ℕ)). codes "continue" ∷ ws) (words_of-decimal turns fits.1)
+
+words_of-switches : (word : ℕ) → word ≤ 65535 → words_of (codes "switches " ++ octal word) ≡ codes "switches" ∷ octal word ∷ []
+words_of-switches word small =
+    words_of-word (codes "switches") 32 (octal word) (graphs_from-test (codes "switches") refl) (omega arith) refl
+    ∙ ap (λ (ws : List (List ℕ)). codes "switches" ∷ ws) (words_of-octal word (omega arith))
+
+words_of-key : (text : List ℕ) → 0 < length text → words_of (codes "key " ++ escaped text) ≡ codes "key" ∷ escaped text ∷ []
+words_of-key text some =
+    words_of-word (codes "key") 32 (escaped text) (graphs_from-test (codes "key") refl) (omega arith) refl
+    ∙ ap (λ (ws : List (List ℕ)). codes "key" ∷ ws) (words_of-last (escaped text) (graphs_of-escaped text) (some-escaped text some))
+
 words_of-regs : words_of (codes "regs") ≡ codes "regs" ∷ []
 unfolding words_of
 words_of-regs = refl
+
+words_of-tick : words_of (codes "tick") ≡ codes "tick" ∷ []
+unfolding words_of
+words_of-tick = refl
+
+words_of-device : words_of (codes "device") ≡ codes "device" ∷ []
+unfolding words_of
+words_of-device = refl
 
 -- the line that the words are
 line_from-words : {A : Type 0} (bytes : List ℕ) (words : List (List ℕ)) (line : Line A) → length bytes ≤ 4096 → words_of bytes ≡ words → line_from_words words ≡ Some line → line_from bytes ≡ Some line
@@ -110,11 +135,31 @@ unfolding line_from_words set_from
 line_from_words-set register value small fits = rw (word_from-octal register small, word_from-octal value fits) refl
 
 line_from_words-step : {A : Type 0} (turns : ℕ) → FitsCount turns → line_from_words {A = A} (codes "step" ∷ decimal turns ∷ []) ≡ Some (Step turns)
-unfolding line_from_words step_from
+unfolding line_from_words turns_from
 line_from_words-step turns fits = rw (count_from-decimal turns fits) refl
 
+line_from_words-continue : {A : Type 0} (turns : ℕ) → FitsCount turns → line_from_words {A = A} (codes "continue" ∷ decimal turns ∷ []) ≡ Some (Continue turns)
+unfolding line_from_words turns_from
+line_from_words-continue turns fits = rw (count_from-decimal turns fits) refl
+
+line_from_words-switches : {A : Type 0} (word : ℕ) → word ≤ 65535 → line_from_words {A = A} (codes "switches" ∷ octal word ∷ []) ≡ Some (Switches word)
+unfolding line_from_words switches_from
+line_from_words-switches word small = rw (word_from-octal word small) refl
+
+line_from_words-key : {A : Type 0} (text : List ℕ) → All (λ byte. byte ≤ 255) text → line_from_words {A = A} (codes "key" ∷ escaped text ∷ []) ≡ Some (Key text)
+unfolding line_from_words key_from
+line_from_words-key text small = rw (bytes_from-escaped text small) refl
+
+line_from_words-tick : {A : Type 0} → line_from_words {A = A} (codes "tick" ∷ []) ≡ Some Tick
+unfolding line_from_words plain_from
+line_from_words-tick = refl
+
+line_from_words-device : {A : Type 0} → line_from_words {A = A} (codes "device" ∷ []) ≡ Some Device
+unfolding line_from_words plain_from
+line_from_words-device = refl
+
 line_from_words-regs : {A : Type 0} → line_from_words {A = A} (codes "regs" ∷ []) ≡ Some Regs
-unfolding line_from_words regs_from
+unfolding line_from_words plain_from
 line_from_words-regs = refl
 
 pub line_from-line_text : {A : Type 0} (line : Line A) → FitsGrammar line → length (line_text line) ≤ 4096 → line_from (line_text line) ≡ Some line
@@ -126,3 +171,8 @@ line_from-line_text (Start address) fits short = line_from-words _ _ _ short (wo
 line_from-line_text (Set register value) fits short = line_from-words _ _ _ short (words_of-set register value fits.0 fits.1) (line_from_words-set register value fits.0 fits.1)
 line_from-line_text (Step turns) fits short = line_from-words _ _ _ short (words_of-step turns fits) (line_from_words-step turns fits)
 line_from-line_text Regs fits short = line_from-words _ _ _ short words_of-regs line_from_words-regs
+line_from-line_text (Key text) fits short = line_from-words _ _ _ short (words_of-key text fits.0) (line_from_words-key text fits.1)
+line_from-line_text Tick fits short = line_from-words _ _ _ short words_of-tick line_from_words-tick
+line_from-line_text (Switches word) fits short = line_from-words _ _ _ short (words_of-switches word fits) (line_from_words-switches word fits)
+line_from-line_text (Continue turns) fits short = line_from-words _ _ _ short (words_of-continue turns fits) (line_from_words-continue turns fits)
+line_from-line_text Device fits short = line_from-words _ _ _ short words_of-device line_from_words-device

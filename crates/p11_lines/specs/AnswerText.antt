@@ -1,15 +1,19 @@
 -- The text of each answer. LF, which is 10, ends each line of it.
-use Rattle.std.specs.Prelude.{ℕ, ◌+◌, ◌/◌, ◌%◌, List, [], ◌∷◌, ◌++◌, codes}
+use Rattle.std.specs.Prelude.{ℕ, ◌+◌, ◌/◌, ◌%◌, Bool, true, false, Option, Some, None, List, [], ◌∷◌, ◌++◌, codes}
 use Rattle.std.specs.List.{flat_map}
 use Rattle.std.specs.Fmt.{decimal}
 use Rattle.p11_lines.specs.declared.answer.Answer.{Answer}
 use Rattle.p11_lines.specs.declared.answer.Answer.TheVariants as answer
+use Rattle.p11_lines.specs.declared.answer.Devices.{Devices}
+use Rattle.p11_lines.specs.declared.answer.LineRegisters.{LineRegisters}
 use Rattle.p11_lines.specs.declared.answer.Mark.{Mark}
 use Rattle.p11_lines.specs.declared.answer.Mark.TheVariants.{Ready, Waiting, Halted}
 use Rattle.p11_lines.specs.declared.answer.Registers.{Registers}
+use Rattle.p11_lines.specs.declared.answer.Requests.{Requests}
 use Rattle.p11_lines.specs.declared.answer.StopReason.{StopReason}
 use Rattle.p11_lines.specs.declared.answer.StopReason.TheVariants.{Halt, Turns, Idle, Memory}
 use Rattle.p11_lines.specs.declared.fault.Fault.{Fault}
+use Rattle.p11_lines.specs.Escapes.{escaped}
 use Rattle.p11_lines.specs.FaultTable.{number_of_fault, name_of_fault}
 
 -- six octal digits: the low 18 bits of a number, the highest digit first
@@ -33,9 +37,15 @@ reason_text Turns = codes "turns"
 reason_text Idle = codes "idle"
 reason_text Memory = codes "memory"
 
+-- `TTY t`: the bytes that were typed, if there are any
+unfoldable pub typed_text : List ℕ → List ℕ
+typed_text [] = []
+typed_text (byte ∷ bytes) = codes "TTY " ++ (escaped (byte ∷ bytes) ++ codes "\n")
+
 -- `STOP r d o`: why, after how many turns, and where the program counter is
 abbrev pub stop_text : StopReason → ℕ → ℕ → List ℕ
-stop_text reason turns pc = codes "STOP " ++ reason_text reason ++ codes " " ++ decimal turns ++ codes " " ++ six_octals pc ++ codes "\n"
+stop_text reason turns pc =
+    codes "STOP " ++ reason_text reason ++ codes " " ++ decimal turns ++ codes " " ++ six_octals pc ++ codes "\n"
 
 abbrev pub mark_text : Mark → List ℕ
 mark_text Ready = codes "ready"
@@ -52,7 +62,9 @@ general_text r = codes "REGS" ++ spaced_text r.general ++ codes "\n"
 
 -- `SP o o PC o PS o`: the stack pointers of kernel and user mode, the program counter and the status word
 abbrev pub pointers_text : Registers → List ℕ
-pointers_text r = codes "SP " ++ six_octals r.kernel_sp ++ codes " " ++ six_octals r.user_sp ++ codes " PC " ++ six_octals r.pc ++ codes " PS " ++ six_octals r.status ++ codes "\n"
+pointers_text r =
+    codes "SP " ++ six_octals r.kernel_sp ++ codes " " ++ six_octals r.user_sp
+    ++ codes " PC " ++ six_octals r.pc ++ codes " PS " ++ six_octals r.status ++ codes "\n"
 
 -- `TURN d s`: the turns since the machine was made, and what the processor does
 abbrev pub turn_text : Registers → List ℕ
@@ -60,6 +72,40 @@ turn_text r = codes "TURN " ++ decimal r.turns ++ codes " " ++ mark_text r.mark 
 
 abbrev pub registers_text : Registers → List ℕ
 registers_text r = general_text r ++ pointers_text r ++ turn_text r
+
+-- `KW11 o`: the line clock's status register
+unfoldable pub clock_text : ℕ → List ℕ
+clock_text word = codes "KW11 " ++ six_octals word ++ codes "\n"
+
+-- a due turn, or `-` where there is none
+abbrev pub due_text : Option ℕ → List ℕ
+due_text None = codes "-"
+due_text (Some turn) = decimal turn
+
+-- `DL11 o o o`: RCSR, RBUF and XCSR
+unfoldable pub line_words_text : LineRegisters → List ℕ
+line_words_text l =
+    codes "DL11 " ++ six_octals l.receiver_status ++ codes " " ++ six_octals l.receiver_buffer
+    ++ codes " " ++ six_octals l.transmitter_status
+
+-- ` keys d rx d tx d` behind it: the keys that wait, and both due turns
+unfoldable pub line_waits_text : LineRegisters → List ℕ
+line_waits_text l =
+    codes " keys " ++ decimal l.keys ++ codes " rx " ++ due_text l.receiver_due
+    ++ codes " tx " ++ due_text l.transmitter_due ++ codes "\n"
+
+abbrev pub request_text : Bool → List ℕ
+request_text false = codes "0"
+request_text true = codes "1"
+
+-- `REQ d d d d`: who requests an interrupt, the clock, the disk, the receiver and the transmitter
+unfoldable pub requests_text : Requests → List ℕ
+requests_text r =
+    codes "REQ " ++ request_text r.clock ++ codes " " ++ request_text r.disk
+    ++ codes " " ++ request_text r.receiver ++ codes " " ++ request_text r.transmitter ++ codes "\n"
+
+abbrev pub devices_text : Devices → List ℕ
+devices_text d = clock_text d.clock ++ (line_words_text d.line ++ line_waits_text d.line) ++ requests_text d.requests
 
 -- `? d name`: the number and the name of the fault
 abbrev pub fault_text : Fault → List ℕ
@@ -69,6 +115,7 @@ unfoldable pub text_of : {A : Type 0} → Answer A → List ℕ
 text_of answer.Done = codes "OK\n"
 text_of (answer.Word address word) = exam_text address word
 text_of (answer.Words address words) = exam_texts address words
-text_of (answer.Stop reason turns pc) = stop_text reason turns pc
+text_of (answer.Stop typed reason turns pc) = typed_text typed ++ stop_text reason turns pc
 text_of (answer.Registers r) = registers_text r
+text_of (answer.Devices d) = devices_text d
 text_of (answer.Refused fault) = fault_text fault

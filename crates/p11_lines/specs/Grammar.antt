@@ -1,11 +1,12 @@
 -- The lines of a script: which bytes are a line, and which line they are.
-use Rattle.std.specs.Prelude.{ℕ, Bool, ◌&&◌, ◌||◌, nat_lt, nat_le, nat_eq, List, [], ◌∷◌, length, filter, Option, Some, None, option_and_then, if◌then◌else◌, codes}
+use Rattle.std.specs.Prelude.{ℕ, zero, suc, Bool, ◌&&◌, ◌||◌, nat_lt, nat_le, nat_eq, List, [], ◌∷◌, length, take, filter, Option, Some, None, option_and_then, if◌then◌else◌, codes}
 use Rattle.std.specs.List.{list_all, slice_split}
 use Rattle.std.specs.Str.{bytes_eq}
 use Rattle.std.specs.Char.{digit_value}
 use Rattle.std.specs.Str.Parse.{digits_value}
 use Rattle.p11_lines.specs.declared.line.Line.{Line}
-use Rattle.p11_lines.specs.declared.line.Line.TheVariants.{Examine, Deposit, Start, Set, Step, Regs}
+use Rattle.p11_lines.specs.declared.line.Line.TheVariants.{Examine, Deposit, Start, Key, Tick, Switches, Set, Step, Continue, Regs, Device}
+use Rattle.p11_lines.specs.Escapes.{is_plain}
 
 -- the steps of a reading, of which each may find that there is no line
 infixl 10 ◌>>=◌
@@ -57,6 +58,31 @@ all_words_from (first ∷ rest) = do
   words ← all_words_from rest
   Some (word ∷ words)
 
+-- ---- texts of bytes
+
+-- the byte that the first three of these digits write in octal, 000 to 377
+unfoldable pub escape_from : List ℕ → Option ℕ
+escape_from digits = if nat_le 3 (length digits) then number_from 8 3 0o377 (take 3 digits) else None
+
+-- The bytes that a text writes, past so many bytes of it. A byte that stands for itself writes itself, and a backslash
+-- writes the byte of the three digits behind it, which it takes with it.
+unfoldable pub bytes_past : ℕ → List ℕ → Option (List ℕ)
+bytes_past more [] = Some []
+bytes_past (suc more) (byte ∷ rest) = bytes_past more rest
+bytes_past zero (byte ∷ rest) =
+    if is_plain byte then (do
+      bytes ← bytes_past 0 rest
+      Some (byte ∷ bytes))
+    else (if nat_eq byte 0o134 then (do
+      escape ← escape_from rest
+      bytes ← bytes_past 3 rest
+      Some (escape ∷ bytes))
+    else None)
+
+-- the bytes that a text writes
+abbrev pub bytes_from : List ℕ → Option (List ℕ)
+bytes_from text = bytes_past 0 text
+
 -- ---- lines
 
 -- `examine A`, `examine A N`
@@ -88,6 +114,27 @@ start_from (a ∷ []) = do
   Some (Start address)
 start_from (a ∷ more ∷ rest) = None
 
+-- `key TEXT`
+unfoldable pub key_from : {A : Type 0} → List (List ℕ) → Option (Line A)
+key_from [] = None
+key_from (t ∷ []) = do
+  text ← bytes_from t
+  Some (Key text)
+key_from (t ∷ more ∷ rest) = None
+
+-- a command that is its name alone
+unfoldable pub plain_from : {A : Type 0} → Line A → List (List ℕ) → Option (Line A)
+plain_from line [] = Some line
+plain_from line (more ∷ rest) = None
+
+-- `switches W`
+unfoldable pub switches_from : {A : Type 0} → List (List ℕ) → Option (Line A)
+switches_from [] = None
+switches_from (w ∷ []) = do
+  word ← word_from w
+  Some (Switches word)
+switches_from (w ∷ more ∷ rest) = None
+
 -- `set R W`
 unfoldable pub set_from : {A : Type 0} → List (List ℕ) → Option (Line A)
 set_from [] = None
@@ -98,18 +145,13 @@ set_from (r ∷ w ∷ []) = do
   Some (Set register value)
 set_from (r ∷ w ∷ more ∷ rest) = None
 
--- `step N`
-unfoldable pub step_from : {A : Type 0} → List (List ℕ) → Option (Line A)
-step_from [] = None
-step_from (n ∷ []) = do
+-- `step N`, `continue N`
+unfoldable pub turns_from : {A : Type 0} → (ℕ → Line A) → List (List ℕ) → Option (Line A)
+turns_from run [] = None
+turns_from run (n ∷ []) = do
   turns ← count_from n
-  Some (Step turns)
-step_from (n ∷ more ∷ rest) = None
-
--- `regs`
-unfoldable pub regs_from : {A : Type 0} → List (List ℕ) → Option (Line A)
-regs_from [] = Some Regs
-regs_from (more ∷ rest) = None
+  Some (run turns)
+turns_from run (n ∷ more ∷ rest) = None
 
 -- the line that these words are, the command's name first
 unfoldable pub line_from_words : {A : Type 0} → List (List ℕ) → Option (Line A)
@@ -118,9 +160,14 @@ line_from_words (name ∷ args) =
     if bytes_eq name (codes "examine") then examine_from args else (
     if bytes_eq name (codes "deposit") then deposit_from args else (
     if bytes_eq name (codes "start") then start_from args else (
+    if bytes_eq name (codes "key") then key_from args else (
+    if bytes_eq name (codes "tick") then plain_from Tick args else (
+    if bytes_eq name (codes "switches") then switches_from args else (
     if bytes_eq name (codes "set") then set_from args else (
-    if bytes_eq name (codes "step") then step_from args else (
-    if bytes_eq name (codes "regs") then regs_from args else None)))))
+    if bytes_eq name (codes "step") then turns_from (λ turns. Step turns) args else (
+    if bytes_eq name (codes "continue") then turns_from (λ turns. Continue turns) args else (
+    if bytes_eq name (codes "regs") then plain_from Regs args else (
+    if bytes_eq name (codes "device") then plain_from Device args else None))))))))))
 
 -- the line that these bytes are, which have no end of line with them
 unfoldable pub line_from : {A : Type 0} → List ℕ → Option (Line A)

@@ -1,5 +1,6 @@
 pub mod AnswerText
 pub mod FaultTable
+pub mod Escapes
 pub mod Grammar
 pub mod LineText
 pub mod Reading

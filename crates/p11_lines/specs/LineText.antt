@@ -1,9 +1,10 @@
--- The text of a line: one space between words, and numbers without leading zeros.
+-- The text of a line: one space between words, numbers without leading zeros, and bytes escaped where they have to be.
 use Rattle.std.specs.Prelude.{ℕ, ◌≡◌, ◌<◌, ◌≤◌, false, List, ◌∷◌, ◌++◌, length, All, Some, codes}
 use Rattle.std.specs.List.{flat_map}
 use Rattle.std.specs.Fmt.{digits, decimal}
 use Rattle.p11_lines.specs.declared.line.Line.{Line}
-use Rattle.p11_lines.specs.declared.line.Line.TheVariants.{Examine, Deposit, Start, Set, Step, Regs}
+use Rattle.p11_lines.specs.declared.line.Line.TheVariants.{Examine, Deposit, Start, Key, Tick, Switches, Set, Step, Continue, Regs, Device}
+use Rattle.p11_lines.specs.Escapes.{escaped}
 use Rattle.p11_lines.specs.Grammar.{line_from}
 
 -- a number in octal
@@ -14,9 +15,14 @@ unfoldable pub line_text : {A : Type 0} → Line A → List ℕ
 line_text (Examine address count) = codes "examine " ++ octal address ++ 32 ∷ decimal count
 line_text (Deposit address words) = codes "deposit " ++ octal address ++ flat_map (λ word. 32 ∷ octal word) words
 line_text (Start address) = codes "start " ++ octal address
+line_text (Key text) = codes "key " ++ escaped text
+line_text Tick = codes "tick"
+line_text (Switches word) = codes "switches " ++ octal word
 line_text (Set register value) = codes "set " ++ octal register ++ 32 ∷ octal value
 line_text (Step turns) = codes "step " ++ decimal turns
+line_text (Continue turns) = codes "continue " ++ decimal turns
 line_text Regs = codes "regs"
+line_text Device = codes "device"
 
 -- a count that a line can show
 abbrev pub FitsCount : ℕ → Type 0
@@ -27,9 +33,12 @@ unfoldable pub FitsGrammar : {A : Type 0} → Line A → Type 0
 FitsGrammar (Examine address count) = (address ≤ 0o777777) × FitsCount count
 FitsGrammar (Deposit address words) = (address ≤ 0o777777) × (0 < length words) × All (λ word. word ≤ 0o177777) words
 FitsGrammar (Start address) = address ≤ 0o177777
+FitsGrammar (Key text) = (0 < length text) × All (λ byte. byte ≤ 255) text
+FitsGrammar (Switches word) = word ≤ 0o177777
 FitsGrammar (Set register value) = (register ≤ 0o177777) × (value ≤ 0o177777)
 FitsGrammar (Step turns) = FitsCount turns
-FitsGrammar Regs = Unit {0}
+FitsGrammar (Continue turns) = FitsCount turns
+FitsGrammar _ = Unit {0}
 
 -- the text of the line reads as the line
 abbrev pub ReadsBack : {A : Type 0} → Line A → Type 0

@@ -4,16 +4,13 @@ use Rattle.std.specs.declared.vec.Vec.{Vec}
 use Rattle.p11_lines.specs.declared.fault.Fault.{Fault}
 use Rattle.p11_lines.specs.declared.fault.Fault.TheVariants.{NoMemory, BadLine}
 use Rattle.p11_lines.specs.declared.line.Line.{Line}
-use Rattle.p11_lines.specs.declared.line.Line.TheVariants.{Examine, Deposit, Start, Set, Step, Regs}
+use Rattle.p11_lines.specs.declared.line.Line.TheVariants.{Deposit, Key}
 
 -- the line holds a list, for which memory is taken
 abbrev pub holds_list : {A : Type 0} → Line A → Bool
-holds_list (Examine address count) = false
 holds_list (Deposit address words) = true
-holds_list (Start address) = false
-holds_list (Set register value) = false
-holds_list (Step turns) = false
-holds_list Regs = false
+holds_list (Key text) = true
+holds_list _ = false
 
 -- the line that was meant; BadLine exactly where none was; NoMemory only for a line that holds a list
 abbrev pub Reads : {A : Type 0} → Result (Line A) Fault → Option (Line A) → Type 0
@@ -23,9 +20,9 @@ Reads (Err NoMemory) None = ⊥
 Reads (Err NoMemory) (Some line) = IsTrue (holds_list line)
 Reads (Err _) meant = ⊥
 
--- the words that were meant, or BadLine where there were none; NoMemory says nothing
-abbrev pub GivesWords : {A : Type 0} → Result (Vec ℕ A) Fault → Option (List ℕ) → Type 0
-GivesWords (Ok vec) meant = meant ≡ Some vec.items
-GivesWords (Err BadLine) meant = meant ≡ None
-GivesWords (Err NoMemory) meant = Unit {0}
-GivesWords (Err _) meant = ⊥
+-- the list that was meant, or BadLine where there was none; NoMemory says nothing
+abbrev pub GivesList : {A : Type 0} → Result (Vec ℕ A) Fault → Option (List ℕ) → Type 0
+GivesList (Ok vec) meant = meant ≡ Some vec.items
+GivesList (Err BadLine) meant = meant ≡ None
+GivesList (Err NoMemory) meant = Unit {0}
+GivesList (Err _) meant = ⊥

@@ -1,4 +1,5 @@
 // What a command answers.
+use crate::bytes::Bytes;
 use crate::fault::Fault;
 use crate::words::Words;
 use std::alloc::{Allocator, Global};
@@ -46,6 +47,38 @@ pub struct Registers {
     pub mark: Mark,
 }
 
+/// What shows of the console line. A due turn is one in which the section acts if nothing else happens.
+#[derive(Clone, Copy, Debug, PartialEq, Eq)]
+pub struct LineRegisters {
+    pub receiver_status: u16,
+    pub receiver_buffer: u16,
+    pub transmitter_status: u16,
+    /// How many keys wait.
+    pub keys: u32,
+    pub receiver_due: Option<u64>,
+    pub transmitter_due: Option<u64>,
+}
+
+/// Which devices request an interrupt.
+#[derive(Clone, Copy, Debug, PartialEq, Eq)]
+pub struct Requests {
+    pub clock: bool,
+    pub disk: bool,
+    pub receiver: bool,
+    pub transmitter: bool,
+}
+
+/// What shows of the devices, without side effect.
+#[derive(Clone, Copy, Debug, PartialEq, Eq)]
+pub struct Devices {
+    /// The status register of the line clock.
+    pub clock: u16,
+    /// The console line.
+    pub line: LineRegisters,
+    /// The requests.
+    pub requests: Requests,
+}
+
 /// What a command answers.
 #[derive(Drop)]
 #[derive_where(Debug, PartialEq, Eq)]
@@ -62,14 +95,17 @@ pub enum Answer<A: Allocator = Global> {
         address: u32,
         words: Words<A>,
     },
-    /// A run has stopped after so many turns, with the program counter here.
+    /// A run has stopped after so many turns, with the program counter here. These bytes were typed in it.
     Stop {
+        typed: Bytes<A>,
         reason: StopReason,
         turns: u32,
         pc: u16,
     },
     /// The registers.
     Registers(Registers),
+    /// The devices.
+    Devices(Devices),
     /// The command was refused, and changed nothing.
     Refused(Fault),
 }

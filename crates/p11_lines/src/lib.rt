@@ -2,14 +2,20 @@
 #![tactic(auto)]
 
 mod answer;
+mod bytes;
+mod devices;
+mod escape;
 mod fault;
+mod keys;
 mod line;
 mod output;
 mod parse;
+mod run;
 mod text;
 mod words;
 
-pub use answer::{Answer, Mark, Registers, StopReason};
+pub use answer::{Answer, Devices, LineRegisters, Mark, Registers, Requests, StopReason};
+pub use bytes::Bytes;
 pub use fault::{Fault, NoMemory};
 pub use line::Line;
 pub use output::{Broken, put_answer};

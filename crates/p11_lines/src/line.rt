@@ -1,4 +1,5 @@
 // What a line of a script asks for.
+use crate::bytes::Bytes;
 use crate::words::Words;
 use std::alloc::{Allocator, Global};
 
@@ -12,10 +13,20 @@ pub enum Line<A: Allocator = Global> {
     Deposit { address: u32, words: Words<A> },
     /// Reset the bus and let the processor begin at an address of 16 bits.
     Start { address: u16 },
+    /// Press the keys of the console's keyboard that give these bytes.
+    Key { text: Bytes<A> },
+    /// Let the line clock tick.
+    Tick,
+    /// Set the switch register.
+    Switches { word: u16 },
     /// Set the register of a number to a word.
     Set { register: u16, value: u16 },
     /// Run so many turns.
     Step { turns: u32 },
+    /// Run so many turns, or fewer where the machine idles.
+    Continue { turns: u32 },
     /// Show the registers.
     Regs,
+    /// Show the devices.
+    Device,
 }

@@ -2,13 +2,16 @@
 ghost use Rattle.std.specs.Prelude.{◌≡◌, ◌+◌, ◌++◌, ◌≤◌, [], OnOk, OnErr, decimal};
 ghost use Rattle.std.specs.List.{flat_map};
 ghost use Rattle.std.specs.Io.KnownBytes.{Appends};
-ghost use Rattle.p11_lines.specs.AnswerText.{text_of, six_octals, exam_text, exam_texts, stop_text, reason_text};
+ghost use Rattle.p11_lines.specs.AnswerText.{text_of, six_octals, exam_text, exam_texts};
 ghost use Rattle.p11_lines.specs.AnswerText.{mark_text, spaced_text, general_text, pointers_text, turn_text};
 ghost use Rattle.p11_lines.specs.AnswerText.{registers_text, fault_text};
 ghost use Rattle.p11_lines.specs.Written.{Wrote, AppendsFront};
 
-use crate::answer::{Answer, Mark, Registers, StopReason};
+use crate::answer::{Answer, Mark, Registers};
+use crate::devices::put_devices;
+use crate::escape::digit;
 use crate::fault::Fault;
+use crate::run::put_run;
 use arrayvec::ArrayVec;
 use itoa::Buffer;
 use std::alloc::Allocator;
@@ -21,7 +24,7 @@ use thiserror::Error;
 pub struct Broken;
 
 /// What is kept of a text until it is written.
-type Table = ArrayVec<u8, 4096>;
+pub(crate) type Table = ArrayVec<u8, 4096>;
 
 /// Writes a piece.
 fn write_out<W: Write>(writer: &mut W, piece: &[u8]) -> Result<(), Broken>
@@ -51,7 +54,7 @@ fn empty<W: Write>(writer: &mut W, table: &mut Table) -> Result<(), Broken>
 }
 
 /// Keeps a piece, and writes what was kept where there is no room for it.
-fn put<W: Write>(writer: &mut W, table: &mut Table, piece: &[u8]) -> Result<(), Broken>
+pub(crate) fn put<W: Write>(writer: &mut W, table: &mut Table, piece: &[u8]) -> Result<(), Broken>
     ensures ok { OnOk result (Wrote (W.contents writer.old) (W.contents writer.new)
         (table.old.items ++ piece.now) table.new.items) }
     ensures err { OnErr result (AppendsFront (W.contents writer.old) (W.contents writer.new)
@@ -68,7 +71,11 @@ fn put<W: Write>(writer: &mut W, table: &mut Table, piece: &[u8]) -> Result<(), 
 }
 
 /// Puts pieces, one after the other.
-fn put_all<W: Write>(writer: &mut W, table: &mut Table, pieces: &[&[u8]]) -> Result<(), Broken>
+pub(crate) fn put_all<W: Write>(
+    writer: &mut W,
+    table: &mut Table,
+    pieces: &[&[u8]],
+) -> Result<(), Broken>
     ensures ok { OnOk result (Wrote (W.contents writer.old) (W.contents writer.new)
         (table.old.items ++ flat_map (λ piece. piece.now) pieces.now) table.new.items) }
     ensures err { OnErr result (AppendsFront (W.contents writer.old) (W.contents writer.new)
@@ -80,17 +87,9 @@ fn put_all<W: Write>(writer: &mut W, table: &mut Table, pieces: &[&[u8]]) -> Res
     Ok(())
 }
 
-/// A number below 8 as a digit.
-fn digit(number: u32) -> u8
-    requires { number ≤ 7 }
-    ensures { result ≡ 48 + number }
-{
-    b'0' + number as u8
-}
-
-#[tactic(auto, unfolding(crate::specs::AnswerText::six_octals))]
 /// The low 18 bits as six octal digits.
-fn octal(number: u32) -> [u8; 6]
+#[tactic(auto, unfolding(crate::specs::AnswerText::six_octals))]
+pub(crate) fn octal(number: u32) -> [u8; 6]
     ensures { result ≡ six_octals number }
 {
     [
@@ -146,48 +145,6 @@ fn put_words<W: Write>(
         at = at.wrapping_add(2);
     }
     Ok(())
-}
-
-/// The word for why a run stopped.
-fn reason_name(reason: StopReason) -> &'static str
-    ensures { result.now ≡ reason_text reason }
-{
-    match reason {
-        StopReason::Halt => "halt",
-        StopReason::Turns => "turns",
-        StopReason::Idle => "idle",
-        StopReason::Memory => "memory",
-    }
-}
-
-fn put_stop<W: Write>(
-    writer: &mut W,
-    table: &mut Table,
-    reason: StopReason,
-    turns: u32,
-    pc: u16,
-) -> Result<(), Broken>
-    ensures ok { OnOk result (Wrote (W.contents writer.old) (W.contents writer.new)
-        (table.old.items ++ stop_text reason turns pc) table.new.items) }
-    ensures err { OnErr result (AppendsFront (W.contents writer.old) (W.contents writer.new)
-        (table.old.items ++ stop_text reason turns pc)) }
-{
-    let mut buffer = Buffer::new();
-    let turns = buffer.format(turns).as_bytes();
-    let pc = octal(u32::from(pc));
-    put_all(
-        writer,
-        table,
-        &[
-            b"STOP ",
-            reason_name(reason).as_bytes(),
-            b" ",
-            turns,
-            b" ",
-            &pc,
-            b"\n",
-        ],
-    )
 }
 
 /// The word for what the processor does.
@@ -323,8 +280,14 @@ fn put_text<W: Write, A: Allocator>(
         Answer::Done => put(writer, table, b"OK\n"),
         Answer::Word { address, word } => put_word(writer, table, *address, *word),
         Answer::Words { address, words } => put_words(writer, table, *address, words.as_slice()),
-        Answer::Stop { reason, turns, pc } => put_stop(writer, table, *reason, *turns, *pc),
+        Answer::Stop {
+            typed,
+            reason,
+            turns,
+            pc,
+        } => put_run(writer, table, typed.as_slice(), *reason, *turns, *pc),
         Answer::Registers(registers) => put_registers(writer, table, registers),
+        Answer::Devices(devices) => put_devices(writer, table, devices),
         Answer::Refused(fault) => put_fault(writer, table, *fault),
     }
 }

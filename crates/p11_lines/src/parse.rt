@@ -2,10 +2,11 @@
 ghost use Rattle.std.specs.Prelude.{◌≡◌, ◌<◌, ◌≤◌, ◌∷◌, [], length, true, not, is_some, IfSome, MatchOption};
 ghost use Rattle.std.specs.List.{position};
 ghost use Rattle.std.specs.Str.Parse.{digits_value};
-ghost use Rattle.p11_lines.specs.Grammar.{is_blank, words_of, all_digits, number_from, address_from, word_from, count_from, all_words_from, examine_from, deposit_from, start_from, set_from, step_from, regs_from, line_from};
-ghost use Rattle.p11_lines.specs.Reading.{Reads, GivesWords};
+ghost use Rattle.p11_lines.specs.Grammar.{is_blank, words_of, all_digits, number_from, address_from, word_from, count_from, all_words_from, examine_from, deposit_from, start_from, plain_from, switches_from, set_from, turns_from, line_from};
+ghost use Rattle.p11_lines.specs.Reading.{Reads, GivesList};
 
 use crate::fault::Fault;
+use crate::keys::key;
 use crate::line::Line;
 use crate::words::Words;
 use std::alloc::Allocator;
@@ -35,7 +36,7 @@ fn first_blank(text: &[u8]) -> Option<usize>
 }
 
 /// The first word of a text, and what follows it.
-fn next_word(text: &[u8]) -> Option<(&[u8], &[u8])>
+pub(crate) fn next_word(text: &[u8]) -> Option<(&[u8], &[u8])>
     ensures words { MatchOption result (words_of text.now ≡ [])
         (λ found. words_of text.now ≡ found.0.now ∷ words_of found.1.now) }
     ensures shorter { IfSome result (λ found. length found.1.now < length text.now) }
@@ -72,7 +73,7 @@ fn value(base: u32, digits: &[u8]) -> u32
 
 /// The number that one digit up to so many write, where it is not above the greatest.
 #[tactic(auto, unfolding(crate::specs::Grammar::number_from))]
-fn number(base: u32, places: usize, greatest: u32, digits: &[u8]) -> Option<u32>
+pub(crate) fn number(base: u32, places: usize, greatest: u32, digits: &[u8]) -> Option<u32>
     requires low { 2 ≤ base }
     requires high { base ≤ 10 }
     requires places { places ≤ 9 }
@@ -164,9 +165,21 @@ fn set<A: Allocator>(args: &[u8]) -> Option<Line<A>>
     Some(Line::Set { register, value })
 }
 
-#[tactic(auto, unfolding(crate::specs::Grammar::step_from))]
+#[tactic(auto, unfolding(crate::specs::Grammar::switches_from))]
+fn switches<A: Allocator>(args: &[u8]) -> Option<Line<A>>
+    ensures { result ≡ switches_from (words_of args.now) }
+{
+    let (first, args) = next_word(args)?;
+    let word = word(first)?;
+    if next_word(args).is_some() {
+        return None;
+    }
+    Some(Line::Switches { word })
+}
+
+#[tactic(auto, unfolding(crate::specs::Grammar::turns_from))]
 fn step<A: Allocator>(args: &[u8]) -> Option<Line<A>>
-    ensures { result ≡ step_from (words_of args.now) }
+    ensures { result ≡ turns_from (λ turns. Line.Step turns) (words_of args.now) }
 {
     let (first, args) = next_word(args)?;
     let turns = count(first)?;
@@ -176,14 +189,27 @@ fn step<A: Allocator>(args: &[u8]) -> Option<Line<A>>
     Some(Line::Step { turns })
 }
 
-#[tactic(auto, unfolding(crate::specs::Grammar::regs_from))]
-fn regs<A: Allocator>(args: &[u8]) -> Option<Line<A>>
-    ensures { result ≡ regs_from (words_of args.now) }
+#[tactic(auto, unfolding(crate::specs::Grammar::turns_from))]
+fn go_on<A: Allocator>(args: &[u8]) -> Option<Line<A>>
+    ensures { result ≡ turns_from (λ turns. Line.Continue turns) (words_of args.now) }
+{
+    let (first, args) = next_word(args)?;
+    let turns = count(first)?;
+    if next_word(args).is_some() {
+        return None;
+    }
+    Some(Line::Continue { turns })
+}
+
+/// A command that is its name alone.
+#[tactic(auto, unfolding(crate::specs::Grammar::plain_from))]
+fn plain<A: Allocator>(line: Line<A>, args: &[u8]) -> Option<Line<A>>
+    ensures { result ≡ plain_from line (words_of args.now) }
 {
     if next_word(args).is_some() {
         return None;
     }
-    Some(Line::Regs)
+    Some(line)
 }
 
 /// Whether each word of the line is a word of the machine.
@@ -204,7 +230,7 @@ fn are_words(args: &[u8]) -> bool
 /// The words of the machine that the words of the line are.
 #[tactic(auto, using(crate::proofs::Lists::found_before_more, crate::proofs::Lists::found_before_all), unfolding(crate::specs::Grammar::all_words_from))]
 fn words<A: Allocator>(alloc: A, args: &[u8]) -> Result<Vec<u16, A>, Fault>
-    ensures { GivesWords result (all_words_from (words_of args.now)) }
+    ensures { GivesList result (all_words_from (words_of args.now)) }
 {
     let mut words = Vec::new(alloc);
     let mut rest = args;
@@ -264,14 +290,29 @@ pub fn parse_line<A: Allocator>(alloc: A, line: &[u8]) -> Result<Line<A>, Fault>
     if name == b"start".as_slice() {
         return start(args).ok_or(Fault::BadLine);
     }
+    if name == b"key".as_slice() {
+        return key(alloc, args);
+    }
+    if name == b"tick".as_slice() {
+        return plain(Line::Tick, args).ok_or(Fault::BadLine);
+    }
+    if name == b"switches".as_slice() {
+        return switches(args).ok_or(Fault::BadLine);
+    }
     if name == b"set".as_slice() {
         return set(args).ok_or(Fault::BadLine);
     }
     if name == b"step".as_slice() {
         return step(args).ok_or(Fault::BadLine);
     }
+    if name == b"continue".as_slice() {
+        return go_on(args).ok_or(Fault::BadLine);
+    }
     if name == b"regs".as_slice() {
-        return regs(args).ok_or(Fault::BadLine);
+        return plain(Line::Regs, args).ok_or(Fault::BadLine);
+    }
+    if name == b"device".as_slice() {
+        return plain(Line::Device, args).ok_or(Fault::BadLine);
     }
     Err(Fault::BadLine)
 }

@@ -255,7 +255,8 @@ fn registers() -> Registers {
 #[test]
 fn each_answer_is_written(rt: HostRuntime) -> Result<(), Fail> {
     let words = Words::from_vec([0, 0o12700].to_vec(rt.alloc())?);
-    let stop = |reason, turns| Answer::Stop {
+    let stop = |typed, reason, turns| Answer::Stop {
+        typed,
         reason,
         turns,
         pc: 0o1012,

@@ -1,4 +1,4 @@
-use Rattle.std.proofs.Common.{◌≡◌, ◌++◌, ℕ, List, codes, refl, sym, ap, append_assoc}
+use Rattle.std.proofs.Common.{◌++◌, refl, append_assoc}
 use Rattle.p11_lines.specs.AnswerText.{general_text, pointers_text, turn_text, registers_text}
 use Rattle.p11_lines.proofs.Pieces.{Wrote-none, Wrote-piece, Wrote-trans, AppendsFront-piece, AppendsFront-trans, OnErr-always, OnErr-map, OnOk-map}
 use Rattle.p11_lines.proofs.output.put_registers.Goals as goal

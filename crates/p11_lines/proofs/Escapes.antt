@@ -1,0 +1,132 @@
+-- The bytes that a text writes, one after the other.
+use Rattle.std.proofs.Common.{◌≡◌, ℕ, zero, suc, ◌+◌, ◌-◌, ◌/◌, ◌%◌, ◌<◌, ◌≤◌, true, false, nat_eq, nat_le, List, [], ◌∷◌, ◌++◌, length, take, drop, get_or, refl, sym, ap, ◌∙◌, arith, Some, None, All, inl, inr}
+use Rattle.std.proofs.lemmas.Bool.{cases_Bool}
+use Rattle.std.proofs.lemmas.Bool.Decides.{nat_tests}
+use Rattle.std.proofs.lemmas.List.{take_all, length-drop, length-append}
+use Rattle.std.proofs.lemmas.List.Elements.{All-nil, All-cons, All-append}
+use Rattle.std.specs.Char.{digit_value}
+use Rattle.std.specs.Prelude.{option_and_then}
+use Rattle.p11_lines.specs.Escapes.{is_plain, escaped_byte, escaped}
+use Rattle.p11_lines.specs.Grammar.{is_blank, escape_from, bytes_past, bytes_from}
+use Rattle.p11_lines.proofs.Numbers.{Writes, number_from-Writes}
+
+-- what `text[0]` and `&text[1..]` are
+pub first_and_rest : (text : List ℕ) (d : ℕ) → 0 < length text → text ≡ get_or text 0 d ∷ take (length text - 1) (drop 1 text)
+first_and_rest [] d some = absurd (omega (arith, some))
+first_and_rest (byte ∷ rest) d some = ap (λ (t : List ℕ). byte ∷ t) (sym (take_all (length (byte ∷ rest) - 1) rest (omega arith)))
+
+pub bytes_past_all : (n : ℕ) (text : List ℕ) → bytes_past n text ≡ bytes_past 0 (drop n text)
+unfolding bytes_past
+bytes_past_all zero text = refl
+bytes_past_all (suc n) [] = refl
+bytes_past_all (suc n) (byte ∷ rest) = bytes_past_all n rest
+
+pub bytes_from-plain : (byte : ℕ) (rest : List ℕ) → is_plain byte ≡ true → bytes_from (byte ∷ rest) ≡ option_and_then (λ bytes. Some (byte ∷ bytes)) (bytes_from rest)
+unfolding bytes_past
+bytes_from-plain byte rest plain = rw plain refl
+
+pub bytes_from-other : (byte : ℕ) (rest : List ℕ) → is_plain byte ≡ false → nat_eq byte 92 ≡ false → bytes_from (byte ∷ rest) ≡ None
+unfolding bytes_past
+bytes_from-other byte rest plain other = rw (plain, other) refl
+
+pub bytes_from-no_escape : (rest : List ℕ) → escape_from rest ≡ None → bytes_from (92 ∷ rest) ≡ None
+unfolding bytes_past
+bytes_from-no_escape rest none = rw none refl
+
+pub bytes_from-escape : (escape : ℕ) (rest : List ℕ) → escape_from rest ≡ Some escape → bytes_from (92 ∷ rest) ≡ option_and_then (λ bytes. Some (escape ∷ bytes)) (bytes_from (drop 3 rest))
+unfolding bytes_past
+bytes_from-escape escape rest some = rw (some, bytes_past_all 3 rest) refl
+
+-- the same of a text that begins so
+pub at_plain : (text : List ℕ) (byte : ℕ) (rest : List ℕ) → text ≡ byte ∷ rest → true ≡ is_plain byte → bytes_from text ≡ option_and_then (λ bytes. Some (byte ∷ bytes)) (bytes_from rest)
+at_plain text byte rest text_is plain = ap (λ (t : List ℕ). bytes_from t) text_is ∙ bytes_from-plain byte rest (sym plain)
+
+pub at_other : (text : List ℕ) (byte : ℕ) (rest : List ℕ) → text ≡ byte ∷ rest → false ≡ is_plain byte → nat_eq byte 92 ≡ false → bytes_from text ≡ None
+at_other text byte rest text_is plain other = ap (λ (t : List ℕ). bytes_from t) text_is ∙ bytes_from-other byte rest (sym plain) other
+
+backslash_first : (text : List ℕ) (byte : ℕ) (rest : List ℕ) → text ≡ byte ∷ rest → byte ≡ 92 → text ≡ 92 ∷ rest
+backslash_first text byte rest text_is backslash = text_is ∙ ap (λ (b : ℕ). b ∷ rest) backslash
+
+pub at_no_escape : (text : List ℕ) (byte : ℕ) (rest : List ℕ) → text ≡ byte ∷ rest → byte ≡ 92 → None ≡ escape_from rest → bytes_from text ≡ None
+at_no_escape text byte rest text_is backslash none = ap (λ (t : List ℕ). bytes_from t) (backslash_first text byte rest text_is backslash) ∙ bytes_from-no_escape rest (sym none)
+
+pub at_escape : (text : List ℕ) (byte : ℕ) (rest : List ℕ) (escape : ℕ) → text ≡ byte ∷ rest → byte ≡ 92 → Some escape ≡ escape_from rest → bytes_from text ≡ option_and_then (λ bytes. Some (escape ∷ bytes)) (bytes_from (take (length rest - 3) (drop 3 rest)))
+at_escape text byte rest escape text_is backslash some =
+    let whole : take (length rest - 3) (drop 3 rest) ≡ drop 3 rest = take_all (length rest - 3) (drop 3 rest) (omega (arith, length-drop 3 rest)) in
+    rw whole (ap (λ (t : List ℕ). bytes_from t) (backslash_first text byte rest text_is backslash) ∙ bytes_from-escape escape rest (sym some))
+
+-- nothing is left
+pub bytes_from-end : (text : List ℕ) → length text ≡ 0 → bytes_from text ≡ Some []
+unfolding bytes_past
+bytes_from-end [] none = refl
+bytes_from-end (byte ∷ text) none = absurd (omega (arith, none))
+
+-- three octal digits write a byte
+octal_digit : (n : ℕ) → n < 8 → digit_value (48 + n) ≡ n
+octal_digit n small = grind (arith, nat_tests)
+
+escape-Writes : (byte : ℕ) → byte ≤ 255 → Writes 8 3 byte ((48 + byte / 64) ∷ (48 + byte / 8 % 8) ∷ (48 + byte % 8) ∷ [])
+escape-Writes byte small =
+    let first : digit_value (48 + byte / 64) ≡ byte / 64 = octal_digit (byte / 64) (omega arith) in
+    let second : digit_value (48 + byte / 8 % 8) ≡ byte / 8 % 8 = octal_digit (byte / 8 % 8) (omega arith) in
+    let third : digit_value (48 + byte % 8) ≡ byte % 8 = octal_digit (byte % 8) (omega arith) in
+    record {
+      some = omega arith;
+      short = omega arith;
+      all = (omega (arith, first), (omega (arith, second), (omega (arith, third), tt)));
+      value = omega (arith, first, second, third);
+    }
+
+escape_from-escape : (byte : ℕ) (more : List ℕ) → byte ≤ 255 → escape_from ((48 + byte / 64) ∷ (48 + byte / 8 % 8) ∷ (48 + byte % 8) ∷ more) ≡ Some byte
+unfolding escape_from
+escape_from-escape byte more small =
+    let long : nat_le 3 (length ((48 + byte / 64) ∷ (48 + byte / 8 % 8) ∷ (48 + byte % 8) ∷ more)) ≡ true = grind (arith, nat_tests) in
+    rw long (number_from-Writes 8 3 255 byte _ (escape-Writes byte small) small)
+
+-- what shows a byte reads as the byte
+bytes_from-escaped_byte : (byte : ℕ) (more : List ℕ) → byte ≤ 255 → bytes_from (escaped_byte byte ++ more) ≡ option_and_then (λ bytes. Some (byte ∷ bytes)) (bytes_from more)
+unfolding escaped_byte
+bytes_from-escaped_byte byte more small =
+    elim (cases_Bool (is_plain byte)) [
+      | inl plain ↦ rw plain (bytes_from-plain byte more plain)
+      | inr not_plain ↦ rw not_plain (bytes_from-escape byte ((48 + byte / 64) ∷ (48 + byte / 8 % 8) ∷ (48 + byte % 8) ∷ more) (escape_from-escape byte more small))
+    ]
+
+pub bytes_from-escaped : (bytes : List ℕ) → All (λ byte. byte ≤ 255) bytes → bytes_from (escaped bytes) ≡ Some bytes
+unfolding bytes_past
+bytes_from-escaped [] small = refl
+bytes_from-escaped (byte ∷ bytes) small =
+    bytes_from-escaped_byte byte (escaped bytes) (small 0 0 (omega arith))
+    ∙ ap (option_and_then (λ (bytes : List ℕ). Some (byte ∷ bytes))) (bytes_from-escaped bytes (λ k d below. small (suc k) d (omega arith)))
+
+-- no byte of it is a blank
+graph : (byte : ℕ) → 33 ≤ byte → is_blank byte ≡ false
+graph byte above = grind (arith, nat_tests)
+
+graphs_of-escaped_byte : (byte : ℕ) → All (λ b. is_blank b ≡ false) (escaped_byte byte)
+unfolding escaped_byte
+graphs_of-escaped_byte byte =
+    let P : ℕ → Type 0 = λ b. is_blank b ≡ false in
+    elim (cases_Bool (is_plain byte)) [
+      | inl plain ↦ let above : 33 ≤ byte = grind (arith, nat_tests) in rw plain (All-cons P byte [] (graph byte above) (All-nil P))
+      | inr not_plain ↦
+          let first = graph (48 + byte / 64) (omega arith) in
+          let second = graph (48 + byte / 8 % 8) (omega arith) in
+          let third = graph (48 + byte % 8) (omega arith) in
+          let last : All P ((48 + byte % 8) ∷ []) = All-cons P (48 + byte % 8) [] third (All-nil P) in
+          let later : All P ((48 + byte / 8 % 8) ∷ (48 + byte % 8) ∷ []) = All-cons P (48 + byte / 8 % 8) ((48 + byte % 8) ∷ []) second last in
+          let digits : All P ((48 + byte / 64) ∷ (48 + byte / 8 % 8) ∷ (48 + byte % 8) ∷ []) = All-cons P (48 + byte / 64) ((48 + byte / 8 % 8) ∷ (48 + byte % 8) ∷ []) first later in
+          rw not_plain (All-cons P 92 ((48 + byte / 64) ∷ (48 + byte / 8 % 8) ∷ (48 + byte % 8) ∷ []) refl digits)
+    ]
+
+pub graphs_of-escaped : (bytes : List ℕ) → All (λ b. is_blank b ≡ false) (escaped bytes)
+graphs_of-escaped [] = All-nil (λ b. is_blank b ≡ false)
+graphs_of-escaped (byte ∷ bytes) = All-append (λ b. is_blank b ≡ false) (escaped_byte byte) (escaped bytes) (graphs_of-escaped_byte byte) (graphs_of-escaped bytes)
+
+some-escaped_byte : (byte : ℕ) → 0 < length (escaped_byte byte)
+unfolding escaped_byte
+some-escaped_byte byte = elim (cases_Bool (is_plain byte)) [ inl plain ↦ rw plain (omega arith) | inr not_plain ↦ rw not_plain (omega arith) ]
+
+pub some-escaped : (bytes : List ℕ) → 0 < length bytes → 0 < length (escaped bytes)
+some-escaped [] some = absurd (omega (arith, some))
+some-escaped (byte ∷ bytes) some = omega (arith, some-escaped_byte byte, length-append (escaped_byte byte) (escaped bytes))

@@ -1,0 +1,66 @@
+// Lists of bytes that clauses compare.
+ghost use Rattle.std.specs.Prelude.{◌≡◌};
+
+use std::alloc::{Allocator, Global};
+use std::marker::Model;
+
+/// A list of bytes. Clauses see it as a list of numbers.
+#[derive(Drop)]
+#[derive_where(Debug)]
+pub struct Bytes<A: Allocator = Global> {
+    items: Vec<u8, A>,
+}
+
+impl<A: Allocator> Model for Bytes<A> {
+    ghost use Rattle.std.specs.Prelude.{List, ℕ};
+
+    ghost Value = { List ℕ };
+
+    ghost view = { λ b. b.items.items };
+}
+
+impl<A: Allocator> PartialEq for Bytes<A> {
+    ghost use Rattle.std.proofs.Common.{rules};
+    ghost use Rattle.std.specs.Prelude.{nat_eq};
+    ghost use Rattle.std.specs.Cmp.Lexicographic.{pointwise};
+    ghost use Rattle.std.specs.Cmp.Rules.{comparing};
+
+    ghost eq = { pointwise nat_eq };
+
+    ghost laws = { Prim.search (comparing, rules) };
+
+    fn eq(&self, other: &Self) -> bool {
+        self.as_slice() == other.as_slice()
+    }
+}
+
+impl<A: Allocator> Eq for Bytes<A> {
+    ghost use Rattle.std.proofs.Common.{rules};
+    ghost use Rattle.std.specs.Cmp.Rules.{comparing};
+
+    ghost laws = { Prim.search (comparing, rules) };
+}
+
+impl<A: Allocator> Bytes<A> {
+    /// The list of what the `Vec` holds, with no growth.
+    pub fn from_vec(items: Vec<u8, A>) -> Self
+        ensures { result ≡ items.items }
+    {
+        Self { items }
+    }
+
+    /// The bytes.
+    pub fn as_slice(&self) -> &[u8]
+        ensures { result.now ≡ self.now }
+    {
+        self.items.as_slice()
+    }
+
+    /// The `Vec` that holds the bytes, with no growth.
+    pub fn into_vec(self) -> Vec<u8, A>
+        ensures { result.items ≡ self }
+    {
+        let Bytes { items } = self;
+        items
+    }
+}

@@ -1,0 +1,145 @@
+// The lines of the devices.
+ghost use Rattle.std.specs.Prelude.{◌≡◌, ◌++◌, OnOk, OnErr};
+ghost use Rattle.p11_lines.specs.AnswerText.{clock_text, due_text, line_words_text, line_waits_text, request_text, requests_text, devices_text};
+ghost use Rattle.p11_lines.specs.Written.{Wrote, AppendsFront};
+
+use crate::answer::{Devices, LineRegisters, Requests};
+use crate::output::{Broken, Table, octal, put_all};
+use arrayvec::ArrayVec;
+use itoa::Buffer;
+use std::io::Write;
+
+#[tactic(auto, unfolding(crate::specs::AnswerText::clock_text))]
+fn put_clock<W: Write>(writer: &mut W, table: &mut Table, word: u16) -> Result<(), Broken>
+    ensures ok { OnOk result (Wrote (W.contents writer.old) (W.contents writer.new)
+        (table.old.items ++ clock_text word) table.new.items) }
+    ensures err { OnErr result (AppendsFront (W.contents writer.old) (W.contents writer.new)
+        (table.old.items ++ clock_text word)) }
+{
+    put_all(writer, table, &[b"KW11 ", &octal(u32::from(word)), b"\n"])
+}
+
+/// A due turn, or a dash.
+fn due_name(due: Option<u64>) -> ArrayVec<u8, 20>
+    ensures { result.items ≡ due_text due }
+{
+    let mut name = ArrayVec::new();
+    let Some(turn) = due else {
+        name.push(b'-');
+        return name;
+    };
+    let mut buffer = Buffer::new();
+    let _ = name.try_extend_from_slice(buffer.format(turn).as_bytes());
+    name
+}
+
+#[tactic(auto, unfolding(crate::specs::AnswerText::line_words_text))]
+fn put_line_words<W: Write>(
+    writer: &mut W,
+    table: &mut Table,
+    line: &LineRegisters,
+) -> Result<(), Broken>
+    ensures ok { OnOk result (Wrote (W.contents writer.old) (W.contents writer.new)
+        (table.old.items ++ line_words_text line.now) table.new.items) }
+    ensures err { OnErr result (AppendsFront (W.contents writer.old) (W.contents writer.new)
+        (table.old.items ++ line_words_text line.now)) }
+{
+    let receiver = octal(u32::from(line.receiver_status));
+    let character = octal(u32::from(line.receiver_buffer));
+    let transmitter = octal(u32::from(line.transmitter_status));
+    put_all(
+        writer,
+        table,
+        &[b"DL11 ", &receiver, b" ", &character, b" ", &transmitter],
+    )
+}
+
+#[tactic(auto, unfolding(crate::specs::AnswerText::line_waits_text))]
+fn put_line_waits<W: Write>(
+    writer: &mut W,
+    table: &mut Table,
+    line: &LineRegisters,
+) -> Result<(), Broken>
+    ensures ok { OnOk result (Wrote (W.contents writer.old) (W.contents writer.new)
+        (table.old.items ++ line_waits_text line.now) table.new.items) }
+    ensures err { OnErr result (AppendsFront (W.contents writer.old) (W.contents writer.new)
+        (table.old.items ++ line_waits_text line.now)) }
+{
+    let mut buffer = Buffer::new();
+    let keys = buffer.format(line.keys).as_bytes();
+    let receives = due_name(line.receiver_due);
+    let types = due_name(line.transmitter_due);
+    put_all(
+        writer,
+        table,
+        &[
+            b" keys ",
+            keys,
+            b" rx ",
+            receives.as_slice(),
+            b" tx ",
+            types.as_slice(),
+            b"\n",
+        ],
+    )
+}
+
+fn put_line<W: Write>(writer: &mut W, table: &mut Table, line: &LineRegisters) -> Result<(), Broken>
+    ensures ok { OnOk result (Wrote (W.contents writer.old) (W.contents writer.new)
+        (table.old.items ++ (line_words_text line.now ++ line_waits_text line.now)) table.new.items) }
+    ensures err { OnErr result (AppendsFront (W.contents writer.old) (W.contents writer.new)
+        (table.old.items ++ (line_words_text line.now ++ line_waits_text line.now))) }
+{
+    put_line_words(writer, table, line)?;
+    put_line_waits(writer, table, line)
+}
+
+/// The word for whether an interrupt is requested.
+fn request_name(request: bool) -> &'static str
+    ensures { result.now ≡ request_text request }
+{
+    if request { "1" } else { "0" }
+}
+
+#[tactic(auto, unfolding(crate::specs::AnswerText::requests_text))]
+fn put_requests<W: Write>(
+    writer: &mut W,
+    table: &mut Table,
+    requests: &Requests,
+) -> Result<(), Broken>
+    ensures ok { OnOk result (Wrote (W.contents writer.old) (W.contents writer.new)
+        (table.old.items ++ requests_text requests.now) table.new.items) }
+    ensures err { OnErr result (AppendsFront (W.contents writer.old) (W.contents writer.new)
+        (table.old.items ++ requests_text requests.now)) }
+{
+    put_all(
+        writer,
+        table,
+        &[
+            b"REQ ",
+            request_name(requests.clock).as_bytes(),
+            b" ",
+            request_name(requests.disk).as_bytes(),
+            b" ",
+            request_name(requests.receiver).as_bytes(),
+            b" ",
+            request_name(requests.transmitter).as_bytes(),
+            b"\n",
+        ],
+    )
+}
+
+pub(crate) fn put_devices<W: Write>(
+    writer: &mut W,
+    table: &mut Table,
+    devices: &Devices,
+) -> Result<(), Broken>
+    ensures ok { OnOk result (Wrote (W.contents writer.old) (W.contents writer.new)
+        (table.old.items ++ devices_text devices.now) table.new.items) }
+    ensures err { OnErr result (AppendsFront (W.contents writer.old) (W.contents writer.new)
+        (table.old.items ++ devices_text devices.now)) }
+{
+    put_clock(writer, table, devices.clock)?;
+    put_line(writer, table, &devices.line)?;
+    put_requests(writer, table, &devices.requests)
+}
