@@ -1,6 +1,6 @@
 use crate::{
-    Answer, Broken, Fault, Line, Mark, Registers, StopReason, Words, line_of, parse_line,
-    put_answer, text_reads_back,
+    Answer, Broken, Bytes, Devices, Fault, Line, LineRegisters, Mark, Registers, Requests,
+    StopReason, Words, line_of, parse_line, put_answer, text_reads_back,
 };
 use linked_list_allocator::LocalHeap;
 use std::alloc::{AllocError, Global};
@@ -22,7 +22,9 @@ fn lines_of_different_spelling_are_equal(rt: HostRuntime) -> Result<(), Fail> {
 #[test]
 fn each_line_is_read_and_written(rt: HostRuntime) -> Result<(), Fail> {
     let words = Words::from_vec([0o12700, 5].to_vec(rt.alloc())?);
-    let cases: [(&[u8], Line, &[u8]); 9] = [
+    let plain = Bytes::from_vec(Vec::from_slice(rt.alloc(), b"AB")?);
+    let escaped = Bytes::from_vec(Vec::from_slice(rt.alloc(), b"\n\\~!\xff\x7f ")?);
+    let cases: [(&[u8], Line, &[u8]); 15] = [
         (
             b"examine 1000",
             Line::Examine {
@@ -78,6 +80,24 @@ fn each_line_is_read_and_written(rt: HostRuntime) -> Result<(), Fail> {
         ),
         (b"step 000000001", Line::Step { turns: 1 }, b"step 1"),
         (b" regs ", Line::Regs, b"regs"),
+        (b"key \\101B", Line::Key { text: plain }, b"key AB"),
+        (
+            b"key \\012\\134~!\\377\\177\\040\t",
+            Line::Key { text: escaped },
+            b"key \\012\\134~!\\377\\177\\040",
+        ),
+        (b"tick", Line::Tick, b"tick"),
+        (
+            b"switches 012345",
+            Line::Switches { word: 0o12_345 },
+            b"switches 12345",
+        ),
+        (
+            b"continue 00100",
+            Line::Continue { turns: 100 },
+            b"continue 100",
+        ),
+        (b"device", Line::Device, b"device"),
     ];
     for (text, want, back) in &cases {
         let line = parse_line(rt.alloc(), text)?;
@@ -90,7 +110,7 @@ fn each_line_is_read_and_written(rt: HostRuntime) -> Result<(), Fail> {
 
 #[test]
 fn what_is_no_line_is_refused(rt: HostRuntime) {
-    let cases: [&[u8]; 42] = [
+    let cases: [&[u8]; 56] = [
         b"",
         b" \t",
         b"# regs",
@@ -132,6 +152,20 @@ fn what_is_no_line_is_refused(rt: HostRuntime) {
         b"step 0",
         b"step 000000000",
         b"step 9 9",
+        b"key",
+        b"key a b",
+        b"key \\400",
+        b"key \\12",
+        b"key \\189",
+        b"key a\\",
+        b"key \x7f",
+        b"tick 1",
+        b"switches",
+        b"switches 200000",
+        b"switches 1 1",
+        b"continue",
+        b"continue 0",
+        b"device 0",
         b"\xff\x00",
     ];
     for text in &cases {
@@ -219,6 +253,28 @@ fn each_growth_of_a_reading_is_refused_in_turn(rt: HostRuntime) -> Result<(), Fa
     Ok(())
 }
 
+/// A text of keys takes memory, and what is no text is known without any.
+#[test]
+fn keys_want_memory(rt: HostRuntime) -> Result<(), Fail> {
+    let heap = LocalHeap::new(rt.alloc(), 4_096)?;
+    let mut full = ballast(rt.alloc(), &heap)?;
+    assert_eq!(rt; parse_line(&heap, b"key a\\102"), Err(Fault::NoMemory));
+    assert_eq!(rt; parse_line(&heap, b"key a\\400"), Err(Fault::BadLine));
+    full.clear();
+    let line = parse_line(&heap, b"key a\\102")?;
+    let Line::Key { text } = &line else {
+        return Err("no keys")?;
+    };
+    assert_eq!(rt; text.as_slice(), b"aB".as_slice());
+    let pieces = ballast(rt.alloc(), &heap)?;
+    assert!(rt; line_of(&heap, &line).is_err() && !pieces.is_empty());
+    let Line::Key { text } = line else {
+        return Err("no keys")?;
+    };
+    assert_eq!(rt; text.into_vec().as_slice(), b"aB".as_slice());
+    Ok(())
+}
+
 #[test]
 fn each_growth_of_a_text_is_refused_in_turn(rt: HostRuntime) -> Result<(), Fail> {
     let heap = LocalHeap::new(rt.alloc(), 4_096)?;
@@ -252,6 +308,27 @@ fn registers() -> Registers {
     }
 }
 
+/// The devices of a new machine.
+fn new_devices() -> Devices {
+    Devices {
+        clock: 0o200,
+        line: LineRegisters {
+            receiver_status: 0,
+            receiver_buffer: 0,
+            transmitter_status: 0o200,
+            keys: 0,
+            receiver_due: None,
+            transmitter_due: None,
+        },
+        requests: Requests {
+            clock: false,
+            disk: false,
+            receiver: false,
+            transmitter: false,
+        },
+    }
+}
+
 #[test]
 fn each_answer_is_written(rt: HostRuntime) -> Result<(), Fail> {
     let words = Words::from_vec([0, 0o12700].to_vec(rt.alloc())?);
@@ -266,7 +343,26 @@ fn each_answer_is_written(rt: HostRuntime) -> Result<(), Fail> {
         turns: 0,
         ..registers()
     };
-    let cases: [(Answer, &[u8]); 10] = [
+    let nothing = || Bytes::from_vec(Vec::new(rt.alloc()));
+    let typed = Bytes::from_vec(Vec::from_slice(rt.alloc(), b"a\\\r\n")?);
+    let busy = Devices {
+        clock: 0o300,
+        line: LineRegisters {
+            receiver_status: 0o300,
+            receiver_buffer: 0o102,
+            transmitter_status: 0o100,
+            keys: 63,
+            receiver_due: Some(4_611_686_018_427_387_904),
+            transmitter_due: Some(64),
+        },
+        requests: Requests {
+            clock: true,
+            disk: false,
+            receiver: true,
+            transmitter: false,
+        },
+    };
+    let cases: [(Answer, &[u8]); 13] = [
         (Answer::Done, b"OK\n"),
         (
             Answer::Word {
@@ -282,12 +378,30 @@ fn each_answer_is_written(rt: HostRuntime) -> Result<(), Fail> {
             },
             b"EXAM 777776 000000\nEXAM 000000 012700\n",
         ),
-        (stop(StopReason::Halt, 3), b"STOP halt 3 001012\n"),
         (
-            stop(StopReason::Turns, 100_000_000),
+            stop(nothing(), StopReason::Halt, 3),
+            b"STOP halt 3 001012\n",
+        ),
+        (
+            stop(nothing(), StopReason::Turns, 100_000_000),
             b"STOP turns 100000000 001012\n",
         ),
-        (stop(StopReason::Memory, 79), b"STOP memory 79 001012\n"),
+        (
+            stop(nothing(), StopReason::Idle, 0),
+            b"STOP idle 0 001012\n",
+        ),
+        (
+            stop(typed, StopReason::Memory, 79),
+            b"TTY a\\134\\015\\012\nSTOP memory 79 001012\n",
+        ),
+        (
+            Answer::Devices(new_devices()),
+            b"KW11 000200\nDL11 000000 000000 000200 keys 0 rx - tx -\nREQ 0 0 0 0\n",
+        ),
+        (
+            Answer::Devices(busy),
+            b"KW11 000300\nDL11 000300 000102 000100 keys 63 rx 4611686018427387904 tx 64\nREQ 1 0 1 0\n",
+        ),
         (
             Answer::Registers(registers()),
             b"REGS 000014 000001 177777 100000 012345 000070\nSP 000700 160000 PC 001012 PS 140017\nTURN 4611686018427387904 halted\n",
