@@ -1,4 +1,4 @@
--- Bytes as a line shows them: a graphic byte but the backslash as itself, any other as a backslash and three octal digits.
+-- Bytes as a line shows them: a graphic byte but the backslash as itself, any other by a backslash and three digits.
 use Rattle.std.specs.Prelude.{ℕ, ◌+◌, ◌/◌, ◌%◌, Bool, ◌&&◌, not, nat_le, nat_eq, List, [], ◌∷◌, if◌then◌else◌}
 use Rattle.std.specs.List.{flat_map}
 

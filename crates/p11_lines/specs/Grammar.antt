@@ -33,7 +33,8 @@ all_digits base digits = list_all (λ digit. nat_lt (digit_value digit) base) di
 -- the number that one digit up to so many write, where it is not above the greatest
 unfoldable pub number_from : ℕ → ℕ → ℕ → List ℕ → Option ℕ
 number_from base places greatest digits =
-    if nat_lt 0 (length digits) && nat_le (length digits) places && all_digits base digits && nat_le (digits_value base digits) greatest
+    if nat_lt 0 (length digits) && nat_le (length digits) places && all_digits base digits
+    && nat_le (digits_value base digits) greatest
     then Some (digits_value base digits) else None
 
 -- an address of the bus: one to six octal digits, at most 777777

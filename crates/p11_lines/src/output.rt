@@ -292,7 +292,8 @@ fn put_text<W: Write, A: Allocator>(
     }
 }
 
-/// Writes the text of an answer, with no growth. A text of at most 4,096 bytes is one write, if the writer takes it whole.
+/// Writes the text of an answer, with no growth. A text of at most 4,096 bytes is one write, if the writer takes it
+/// whole.
 ///
 /// Where the bytes of the writer are known, they gain exactly the text, and after `Broken` a front
 /// of it that isn't all of it: the writer failed, or took no bytes.

@@ -12,7 +12,8 @@ use std::alloc::{AllocError, Allocator};
 /// Adds a space and an octal number for each word.
 #[tactic(auto, using(std::proofs::lemmas::List::flat_map_more))]
 fn push_words<A: Allocator>(text: &mut String<A>, words: &[u16]) -> Result<(), AllocError>
-    ensures { OnOk result (string_bytes text.new ≡ string_bytes text.old ++ flat_map (λ word. 32 ∷ octal word) words.now) }
+    ensures { OnOk result (string_bytes text.new
+        ≡ string_bytes text.old ++ flat_map (λ word. 32 ∷ octal word) words.now) }
 {
     for word in words {
         write!(text, " {word:o}")?;
