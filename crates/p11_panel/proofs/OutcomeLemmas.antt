@@ -1,5 +1,5 @@
 -- One outcome of a command, and of a list of commands.
-use Rattle.std.proofs.Common.{◌≡◌, ◌≢◌, ◌≤◌, ◌<◌, ◌⊎◌, ℕ, Bool, Option, Some, None, MatchOption, List, [], ◌∷◌, All, refl, sym, ap, subst, ◌∙◌, inl, inr}
+use Rattle.std.proofs.Common.{◌≡◌, ◌≢◌, ◌≤◌, ◌<◌, ◌⊎◌, ℕ, Bool, true, false, Option, Some, None, MatchOption, List, [], ◌∷◌, All, refl, sym, ap, subst, ◌∙◌, inl, inr}
 use Rattle.std.proofs.lemmas.List.Elements.{All-head, All-tail}
 use Rattle.p11_lines.specs.declared.answer.Answer.{Answer}
 use Rattle.p11_lines.specs.declared.answer.Answer.TheVariants as answers
@@ -9,11 +9,13 @@ use Rattle.p11_lines.specs.declared.fault.Fault.{Fault}
 use Rattle.p11_lines.specs.declared.fault.Fault.TheVariants.{NoMemory}
 use Rattle.p11_cpu.specs.State.{State}
 use Rattle.p11_cpu.specs.Operator.{console_register, start_of, set_reg_of}
+use Rattle.p11_cpu.specs.Console.{tick_of, set_switches_of, take_typed_of}
 use Rattle.p11_cpu.specs.declared.registers.ConsoleRegister.{ConsoleRegister}
 use Rattle.p11_panel.specs.declared.command.Command.{Command}
 use Rattle.p11_panel.specs.declared.command.Command.TheVariants as commands
-use Rattle.p11_panel.specs.Commands.{Acts, IsRefused, IsDone, Examines, Steps, examined, examine_fault, deposit_fault, start_fault, step_fault, registers_of}
-use Rattle.p11_panel.specs.Runs.{IsRun, never_idles}
+use Rattle.p11_panel.specs.Commands.{Acts, IsRefused, IsDone, Examines, Stops, examined, examine_fault, deposit_fault, start_fault, key_fault, step_fault, registers_of, shown_devices}
+use Rattle.p11_panel.specs.Runs.{IsRun, stops_idling}
+use Rattle.p11_panel.specs.Keys.{pressed}
 use Rattle.p11_panel.specs.Ranges.{deposited}
 use Rattle.p11_panel.specs.Play.{Plays}
 use Rattle.p11_panel.specs.Laws.{HadMemory, RunsHaveOneOutcome, CommandsHaveOneOutcome, ListsHaveOneOutcome}
@@ -32,15 +34,17 @@ examines_once address n s answer other s' t' m l (inl h) (inl k) = let same = sy
 examines_once address n s answer other s' t' m l (inl h) (inr k) = absurd (l.0 k.1.0)
 examines_once address n s answer other s' t' m l (inr h) k = absurd (m.0 h.1.0)
 
-steps_once : {A : Type 0} → RunsHaveOneOutcome → (n : ℕ) (s : State) (answer other : Answer A) (s' t' : State) → HadMemory answer → HadMemory other → Steps n s answer s' → Steps n s other t' → (answer ≡ other) × (s' ≡ t')
-steps_once {A} law n s answer other s' t' m l h k =
-    let run = law never_idles n s h.0 k.0 h.1 k.1 s' t' h.2 k.2
-    (λ e. m.1 h.0 s'.processor.registers.pc (h.3 ∙ ap (λ reason. answers.Stop reason h.0 s'.processor.registers.pc) e))
-    (λ e. l.1 k.0 t'.processor.registers.pc (k.3 ∙ ap (λ reason. answers.Stop reason k.0 t'.processor.registers.pc) e)) in
-    let made : ◌≡◌ {A = Answer A} (answers.Stop h.1 h.0 s'.processor.registers.pc) (answers.Stop h.1 k.0 s'.processor.registers.pc) = ap (λ made. answers.Stop h.1 made s'.processor.registers.pc) run.0 in
-    let why : ◌≡◌ {A = Answer A} (answers.Stop h.1 k.0 s'.processor.registers.pc) (answers.Stop k.1 k.0 s'.processor.registers.pc) = ap (λ reason. answers.Stop reason k.0 s'.processor.registers.pc) run.1 in
-    let where_to : ◌≡◌ {A = Answer A} (answers.Stop k.1 k.0 s'.processor.registers.pc) (answers.Stop k.1 k.0 t'.processor.registers.pc) = ap (λ (x : State). answers.Stop k.1 k.0 x.processor.registers.pc) run.2 in
-    (h.3 ∙ (made ∙ (why ∙ (where_to ∙ sym k.3))), run.2)
+stops_once : {A : Type 0} → RunsHaveOneOutcome → (asked : Bool) (n : ℕ) (s : State) (answer other : Answer A) (s' t' : State) → HadMemory answer → HadMemory other → Stops asked n s answer s' → Stops asked n s other t' → (answer ≡ other) × (s' ≡ t')
+stops_once {A} law asked n s answer other s' t' m l h k =
+    let x = h.2 in
+    let y = k.2 in
+    let run = law (stops_idling asked) n s h.0 k.0 h.1 k.1 x y h.3 k.3
+    (λ e. m.1 x.bus.typed h.0 x.processor.registers.pc (h.4 ∙ ap (λ reason. answers.Stop x.bus.typed reason h.0 x.processor.registers.pc) e))
+    (λ e. l.1 y.bus.typed k.0 y.processor.registers.pc (k.4 ∙ ap (λ reason. answers.Stop y.bus.typed reason k.0 y.processor.registers.pc) e)) in
+    let made : ◌≡◌ {A = Answer A} (answers.Stop x.bus.typed h.1 h.0 x.processor.registers.pc) (answers.Stop x.bus.typed h.1 k.0 x.processor.registers.pc) = ap (λ made. answers.Stop x.bus.typed h.1 made x.processor.registers.pc) run.0 in
+    let why : ◌≡◌ {A = Answer A} (answers.Stop x.bus.typed h.1 k.0 x.processor.registers.pc) (answers.Stop x.bus.typed k.1 k.0 x.processor.registers.pc) = ap (λ reason. answers.Stop x.bus.typed reason k.0 x.processor.registers.pc) run.1 in
+    let where_to : ◌≡◌ {A = Answer A} (answers.Stop x.bus.typed k.1 k.0 x.processor.registers.pc) (answers.Stop y.bus.typed k.1 k.0 y.processor.registers.pc) = ap (λ (z : State). answers.Stop z.bus.typed k.1 k.0 z.processor.registers.pc) run.2 in
+    (h.4 ∙ (made ∙ (why ∙ (where_to ∙ sym k.4))), h.5 ∙ (ap take_typed_of run.2 ∙ sym k.5))
 
 pub acts_once : {A : Type 0} → RunsHaveOneOutcome → CommandsHaveOneOutcome A
 acts_once {A} law s (commands.Examine address n) answer other s' t' h k m l =
@@ -52,7 +56,14 @@ acts_once {A} law s (commands.Start address) answer other s' t' h k m l =
 acts_once {A} law s (commands.Set number word) answer other s' t' h k m l =
     either_once (console_register number) _ _ _ _ _ (done_once (answers.Refused _) answer other s s' t') (λ register. done_once answers.Done answer other (set_reg_of register word s) s' t') h k
 acts_once {A} law s (commands.Step n) answer other s' t' h k m l =
-    either_once (step_fault n s) _ _ _ _ _ (steps_once law n s answer other s' t' m l) (λ fault. done_once (answers.Refused fault) answer other s s' t') h k
+    either_once (step_fault n s) _ _ _ _ _ (stops_once law false n s answer other s' t' m l) (λ fault. done_once (answers.Refused fault) answer other s s' t') h k
+acts_once {A} law s (commands.Key text) answer other s' t' h k m l =
+    either_once (key_fault text s) _ _ _ _ _ (done_once answers.Done answer other (pressed text s) s' t') (λ fault. done_once (answers.Refused fault) answer other s s' t') h k
+acts_once law s commands.Tick answer other s' t' h k m l = done_once answers.Done answer other (tick_of s) s' t' h k
+acts_once law s (commands.Switches word) answer other s' t' h k m l = done_once answers.Done answer other (set_switches_of word s) s' t' h k
+acts_once {A} law s (commands.Continue n) answer other s' t' h k m l =
+    either_once (step_fault n s) _ _ _ _ _ (stops_once law true n s answer other s' t' m l) (λ fault. done_once (answers.Refused fault) answer other s s' t') h k
+acts_once law s commands.Device answer other s' t' h k m l = done_once (answers.Devices (shown_devices s)) answer other s s' t' h k
 acts_once law s commands.Regs answer other s' t' h k m l = done_once (answers.Registers (registers_of s)) answer other s s' t' h k
 
 pub plays_once : {A : Type 0} → RunsHaveOneOutcome → ListsHaveOneOutcome A

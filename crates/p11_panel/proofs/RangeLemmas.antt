@@ -4,6 +4,8 @@ use Rattle.std.proofs.lemmas.Bool.{cases_lt}
 use Rattle.std.proofs.lemmas.List.{take_more}
 use Rattle.p11_cpu.specs.State.{State}
 use Rattle.p11_cpu.specs.Operator.{answers_of, examine_of, deposit_of}
+use Rattle.p11_cpu.specs.Console.{key_of}
+use Rattle.p11_panel.specs.Keys.{pressed}
 use Rattle.p11_panel.specs.Ranges.{answers_at, all_answer, reads_at, deposited}
 
 and_true-left : (a b : Bool) → (a && b) ≡ true → a ≡ true
@@ -69,3 +71,12 @@ deposited_more address words i d s s' h e =
 pub reads_more : (address n word : ℕ) (words : List ℕ) (s s' s'' : State) → reads_at address n s ≡ (s', words) → examine_of (address + 2 * n) s' ≡ (s'', word) → reads_at address (n + 1) s ≡ (s'', words ++ word ∷ [])
 unfolding reads_at
 reads_more address n word words s s' s'' e f = rw (add-one n, e, f) refl
+
+-- one more key is pressed
+pressed_push : (keys : List ℕ) (key : ℕ) (s : State) → pressed (keys ++ key ∷ []) s ≡ (key_of key (pressed keys s)).0
+unfolding pressed
+pressed_push [] key s = refl
+pressed_push (k ∷ keys) key s = pressed_push keys key (key_of k s).0
+
+pub pressed_more : (keys : List ℕ) (i d : ℕ) (s s' s'' : State) → i < length keys → s' ≡ pressed (take i keys) s → s'' ≡ (key_of (get_or keys i d) s').0 → s'' ≡ pressed (take (i + 1) keys) s
+pressed_more keys i d s s' s'' h e f = rw (take_more keys i d h, pressed_push (take i keys) (get_or keys i d) s) (f ∙ ap (λ (x : State). (key_of (get_or keys i d) x).0) e)

@@ -81,6 +81,13 @@ stop_made idles n s e =
     let same : (n == n) ≡ true = grind arith in
     rw (e, same) refl
 
+stop_idle : (idles : State → Bool) (n k : ℕ) (s s' : State) → k < n → idles s' ≡ true → Goes idles n s k s' → stop_of idles n k s ≡ Some reasons.Idle
+unfolding stop_of
+stop_idle idles n k s s' h idle goes =
+    let other : (k == n) ≡ false = grind (arith, h) in
+    let here : idles (after_turns k s) ≡ true = subst (λ (x : State). idles x ≡ true) goes.state idle in
+    rw (goes.ran, other, here) refl
+
 -- all turns are made
 pub all_made : (idles : State → Bool) (n k : ℕ) (s s' : State) → k ≡ n → Goes idles n s k s' → IsRun idles n s n reasons.Turns s'
 all_made idles n k s s' e goes =
@@ -90,6 +97,15 @@ all_made idles n k s s' e goes =
       state = here.state;
       stops = stops_by idles n n s s' reasons.Turns (stop_made idles n s here.ran);
       goes_on = here.goes_on;
+    }
+
+-- the machine idles
+pub idle_now : (idles : State → Bool) (n k : ℕ) (s s' : State) → k < n → idles s' ≡ true → Goes idles n s k s' → IsRun idles n s k reasons.Idle s'
+idle_now idles n k s s' h idle goes =
+    record {
+      state = goes.state;
+      stops = stops_by idles n k s s' reasons.Idle (stop_idle idles n k s s' h idle goes);
+      goes_on = goes.goes_on;
     }
 
 -- the next turn wants memory

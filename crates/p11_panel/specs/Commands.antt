@@ -1,10 +1,11 @@
 -- The operator's commands: what each is refused for, in the order in which the refusals are tried, and what it does and
 -- answers where it is not refused.
-use Rattle.std.specs.Prelude.{◌≡◌, ℕ, ◌+◌, ◌-◌, ◌*◌, ◌%◌, ◌<◌, ◌⊎◌, List, length, Bool, ◌&&◌, nat_lt, nat_le, ◌==◌, Option, None, Some, MatchOption, if◌then◌else◌}
+use Rattle.std.specs.Prelude.{◌≡◌, ℕ, ◌+◌, ◌-◌, ◌*◌, ◌%◌, ◌<◌, ◌⊎◌, List, length, Bool, true, false, ◌&&◌, nat_lt, nat_le, ◌==◌, Option, None, Some, MatchOption, if◌then◌else◌}
 use Rattle.p11_lines.specs.declared.fault.Fault.{Fault}
-use Rattle.p11_lines.specs.declared.fault.Fault.TheVariants.{TooMany, OddAddress, NoAnswer, BadRegister, NoMemory}
+use Rattle.p11_lines.specs.declared.fault.Fault.TheVariants.{TooMany, OddAddress, NoAnswer, BadRegister, KeysFull, NoMemory}
 use Rattle.p11_lines.specs.declared.answer.Answer.{Answer}
 use Rattle.p11_lines.specs.declared.answer.Answer.TheVariants as answers
+use Rattle.p11_lines.specs.declared.answer.Devices.{Devices}
 use Rattle.p11_lines.specs.declared.answer.Mark.{Mark}
 use Rattle.p11_lines.specs.declared.answer.Mark.TheVariants.{Ready, Waiting, Halted}
 use Rattle.p11_lines.specs.declared.answer.Registers.{Registers}
@@ -12,10 +13,12 @@ use Rattle.p11_lines.specs.declared.answer.StopReason.{StopReason}
 use Rattle.p11_psw.specs.Status.{status_word}
 use Rattle.p11_cpu.specs.State.{State, Processor}
 use Rattle.p11_cpu.specs.Operator.{examine_of, start_of, console_register, set_reg_of}
+use Rattle.p11_cpu.specs.Console.{room_of, tick_of, set_switches_of, take_typed_of, machine_devices_of}
 use Rattle.p11_panel.specs.declared.command.Command.{Command}
 use Rattle.p11_panel.specs.declared.command.Command.TheVariants as commands
 use Rattle.p11_panel.specs.Ranges.{all_answer, reads_at, deposited}
-use Rattle.p11_panel.specs.Runs.{IsRun, never_idles}
+use Rattle.p11_panel.specs.Keys.{pressed}
+use Rattle.p11_panel.specs.Runs.{IsRun, stops_idling}
 
 -- EXAMINE: 1 to 512 words from an even address on, all of which answer
 unfoldable pub examine_fault : ℕ → ℕ → State → Option Fault
@@ -52,7 +55,11 @@ deposit_fault address words s =
 unfoldable pub start_fault : ℕ → Option Fault
 start_fault address = if address % 2 == 1 then Some OddAddress else None
 
--- STEP: 1 to 100,000,000 turns, after which the count of turns is 2^62 at most
+-- KEY: no more keys than there is room for
+unfoldable pub key_fault : List ℕ → State → Option Fault
+key_fault text s = if nat_lt (room_of s) (length text) then Some KeysFull else None
+
+-- STEP and CONTINUE: 1 to 100,000,000 turns, after which the count of turns is 2^62 at most
 unfoldable pub step_fault : ℕ → State → Option Fault
 step_fault n s =
     if n == 0 then Some TooMany
@@ -76,6 +83,30 @@ registers_of s =
       mark = mark_of p;
     }
 
+-- DEVICE: the clock, the console line and the requests. No disk is there yet to request.
+unfoldable pub shown_devices : State → Devices
+shown_devices s =
+    let d = machine_devices_of s in
+    record {
+      clock = d.clock;
+      line =
+          record {
+            receiver_status = d.receiver_status;
+            receiver_buffer = d.receiver_buffer;
+            transmitter_status = d.transmitter_status;
+            keys = d.keys;
+            receiver_due = d.receiver_due;
+            transmitter_due = d.transmitter_due;
+          };
+      requests =
+          record {
+            clock = d.clock_request;
+            disk = false;
+            receiver = d.receiver_request;
+            transmitter = d.transmitter_request;
+          };
+    }
+
 -- a refused command answers its fault, and changes nothing
 abbrev pub IsRefused : {A : Type 0} → Fault → State → Answer A → State → Type 0
 IsRefused fault s answer s' = (answer ≡ answers.Refused fault) × (s' ≡ s)
@@ -93,10 +124,12 @@ abbrev pub Sets : {A : Type 0} → ℕ → ℕ → State → Answer A → State 
 Sets number word s answer s' =
     MatchOption (console_register number) (IsRefused BadRegister s answer s') (λ register. IsDone answers.Done (set_reg_of register word s) answer s')
 
--- STEP makes a run of n turns, and answers its reason, how many turns were made, and PC
-abbrev pub Steps : {A : Type 0} → ℕ → State → Answer A → State → Type 0
-Steps n s answer s' =
-    (k : ℕ) × (reason : StopReason) × IsRun never_idles n s k reason s' × (answer ≡ answers.Stop reason k s'.processor.registers.pc)
+-- A run of n turns answers the characters that were typed in it, which are taken, its reason, how many turns were made,
+-- and PC. STEP isn't asked to stop where the machine idles, CONTINUE is.
+abbrev pub Stops : {A : Type 0} → Bool → ℕ → State → Answer A → State → Type 0
+Stops asked n s answer s' =
+    (k : ℕ) × (reason : StopReason) × (last : State) × IsRun (stops_idling asked) n s k reason last
+    × (answer ≡ answers.Stop last.bus.typed reason k last.processor.registers.pc) × (s' ≡ take_typed_of last)
 
 -- What a command does to a machine: the answer, and the state after it.
 abbrev pub Acts : {A : Type 0} → State → Command A → Answer A → State → Type 0
@@ -106,7 +139,14 @@ Acts s (commands.Deposit address words) answer s' =
     MatchOption (deposit_fault address words s) (IsDone answers.Done (deposited address words s) answer s') (λ fault. IsRefused fault s answer s')
 Acts s (commands.Start address) answer s' =
     MatchOption (start_fault address) (IsDone answers.Done (start_of address s) answer s') (λ fault. IsRefused fault s answer s')
+Acts s (commands.Key text) answer s' =
+    MatchOption (key_fault text s) (IsDone answers.Done (pressed text s) answer s') (λ fault. IsRefused fault s answer s')
+Acts s commands.Tick answer s' = IsDone answers.Done (tick_of s) answer s'
+Acts s (commands.Switches word) answer s' = IsDone answers.Done (set_switches_of word s) answer s'
 Acts s (commands.Set number word) answer s' = Sets number word s answer s'
 Acts s (commands.Step n) answer s' =
-    MatchOption (step_fault n s) (Steps n s answer s') (λ fault. IsRefused fault s answer s')
+    MatchOption (step_fault n s) (Stops false n s answer s') (λ fault. IsRefused fault s answer s')
+Acts s (commands.Continue n) answer s' =
+    MatchOption (step_fault n s) (Stops true n s answer s') (λ fault. IsRefused fault s answer s')
 Acts s commands.Regs answer s' = IsDone (answers.Registers (registers_of s)) s answer s'
+Acts s commands.Device answer s' = IsDone (answers.Devices (shown_devices s)) s answer s'

@@ -2,6 +2,7 @@ pub mod Sizes
 pub mod Runs
 pub mod Laws
 pub mod Ranges
+pub mod Keys
 pub mod Commands
 pub mod Play
 pub mod Script

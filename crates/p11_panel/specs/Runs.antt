@@ -1,11 +1,12 @@
 -- A run of turns, as the operator makes it.
-use Rattle.std.specs.Prelude.{◌≡◌, ℕ, zero, suc, ◌<◌, Bool, true, false, Option, None, Some, MatchOption, ◌==◌, if◌then◌else◌}
+use Rattle.std.specs.Prelude.{◌≡◌, ℕ, zero, suc, ◌<◌, Bool, true, false, ◌&&◌, Option, None, Some, MatchOption, ◌==◌, if◌then◌else◌}
 use Rattle.p11_lines.specs.declared.answer.StopReason.{StopReason}
 use Rattle.p11_lines.specs.declared.answer.StopReason.TheVariants as reasons
 use Rattle.p11_cpu.specs.declared.turn.Turn.{Turn}
 use Rattle.p11_cpu.specs.declared.turn.Turn.TheVariants.{Ran, Halted}
 use Rattle.p11_cpu.specs.State.{State}
 use Rattle.p11_cpu.specs.Prepared.{needs_memory}
+use Rattle.p11_cpu.specs.Console.{is_idle}
 use Rattle.p11_cpu.specs.Turns.{turn_of}
 
 -- the machine after so many turns
@@ -30,9 +31,9 @@ stop_of idles n k s =
     else (if k == n then Some reasons.Turns
     else (if idles (after_turns k s) then Some reasons.Idle else None))
 
--- STEP doesn't ask whether the machine idles
-abbrev pub never_idles : State → Bool
-never_idles s = false
+-- where a run stops for idling, if it is asked to
+abbrev pub stops_idling : Bool → State → Bool
+stops_idling asked s = asked && is_idle s
 
 -- the next turn wants memory, which was refused
 abbrev pub IsMemory : StopReason → State → Type 0

@@ -31,9 +31,14 @@ unfoldable pub command_of : {A : Type 0} → Line A → Command A
 command_of (lines.Examine address count) = commands.Examine address count
 command_of (lines.Deposit address words) = commands.Deposit address words
 command_of (lines.Start address) = commands.Start address
+command_of (lines.Key text) = commands.Key text
+command_of lines.Tick = commands.Tick
+command_of (lines.Switches word) = commands.Switches word
 command_of (lines.Set register value) = commands.Set register value
 command_of (lines.Step turns) = commands.Step turns
+command_of (lines.Continue turns) = commands.Continue turns
 command_of lines.Regs = commands.Regs
+command_of lines.Device = commands.Device
 
 -- What a line with an answer does, by what the grammar makes of it: the command, or nothing where it is no line. Reading
 -- a line that holds a list may find no memory, before all else.

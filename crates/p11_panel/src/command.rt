@@ -1,4 +1,4 @@
-use p11_lines::Words;
+use p11_lines::{Bytes, Words};
 use std::alloc::{Allocator, Global};
 
 /// A command of the operator's. Bus addresses have 18 bits, and words 16.
@@ -10,11 +10,21 @@ pub enum Command<A: Allocator = Global> {
     Deposit { address: u32, words: Words<A> },
     /// Reset the bus and set PC to an even address.
     Start { address: u16 },
+    /// Press the keys that give these bytes, all of them or none.
+    Key { text: Bytes<A> },
+    /// Let the line clock tick.
+    Tick,
+    /// Set the switch register.
+    Switches { word: u16 },
     /// Set the register of a number (octal): 0 to 5, the kernel's stack pointer 6, PC 7, the user's stack pointer 10, or the
     /// processor status word 11, of which bits 11:8 stay 0.
     Set { register: u16, value: u16 },
     /// Run so many turns: 1 to 100,000,000.
     Step { turns: u32 },
+    /// Run so many turns, 1 to 100,000,000, or fewer where the machine idles.
+    Continue { turns: u32 },
     /// Show the processor's registers.
     Regs,
+    /// Show the devices.
+    Device,
 }

@@ -1,6 +1,6 @@
-ghost use Rattle.std.specs.Prelude.{◌≡◌, ◌<◌, true, IfOk};
+ghost use Rattle.std.specs.Prelude.{◌≡◌, ◌<◌, ◌≤◌, ◌+◌, ◌^◌, true, IfOk};
 ghost use Rattle.p11_cpu.specs.Operator.{new_machine};
-ghost use Rattle.p11_panel.specs.Commands.{Acts, Examines, registers_of, mark_of};
+ghost use Rattle.p11_panel.specs.Commands.{Acts, Examines, Stops, registers_of, mark_of, shown_devices};
 ghost use Rattle.p11_panel.specs.Ranges.{all_answer};
 
 use crate::command::Command;
@@ -8,7 +8,9 @@ use crate::config::Config;
 use crate::refusal::start_refusal;
 use crate::run::run;
 use p11_cpu::{ConsoleRegister, Machine};
-use p11_lines::{Answer, Fault, Mark, NoMemory, Registers, Words};
+use p11_lines::{
+    Answer, Bytes, Devices, Fault, LineRegisters, Mark, NoMemory, Registers, Requests, Words,
+};
 use std::alloc::{Allocator, Global};
 use std::marker::Model;
 
@@ -55,6 +57,31 @@ impl<A: Allocator> Panel<A> {
         }
     }
 
+    /// What the devices show of themselves.
+    #[tactic(auto, unfolding(crate::specs::Commands::shown_devices))]
+    fn devices(&self) -> Devices
+        ensures { result ≡ shown_devices self.now }
+    {
+        let shown = self.machine.devices();
+        Devices {
+            clock: shown.clock,
+            line: LineRegisters {
+                receiver_status: shown.receiver_status,
+                receiver_buffer: shown.receiver_buffer,
+                transmitter_status: shown.transmitter_status,
+                keys: shown.keys,
+                receiver_due: shown.receiver_due,
+                transmitter_due: shown.transmitter_due,
+            },
+            requests: Requests {
+                clock: shown.clock_request,
+                disk: false,
+                receiver: shown.receiver_request,
+                transmitter: shown.transmitter_request,
+            },
+        }
+    }
+
     /// What the processor does between turns.
     fn mark(&self) -> Mark
         ensures { result ≡ mark_of self.now.processor }
@@ -81,9 +108,14 @@ impl<A: Allocator + Copy> Panel<A> {
             Command::Examine { address, count } => self.examine(alloc, *address, *count),
             Command::Deposit { address, words } => self.deposit(*address, words.as_slice()),
             Command::Start { address } => self.start(*address),
+            Command::Key { text } => self.key(text.as_slice()),
+            Command::Tick => self.tick(),
+            Command::Switches { word } => self.switches(*word),
             Command::Set { register, value } => self.set(*register, *value),
             Command::Step { turns } => self.step(*turns),
+            Command::Continue { turns } => self.continue_run(*turns),
             Command::Regs => Answer::Registers(self.registers()),
+            Command::Device => Answer::Devices(self.devices()),
         }
     }
 
@@ -139,6 +171,33 @@ impl<A: Allocator + Copy> Panel<A> {
         Answer::Done
     }
 
+    /// KEY.
+    fn key(&mut self, text: &[u8]) -> Answer<A>
+        ensures { Acts self.old (Command.Key text.now) result self.new }
+    {
+        if let Some(fault) = self.key_refusal(text) {
+            return Answer::Refused(fault);
+        }
+        self.press_all(text);
+        Answer::Done
+    }
+
+    /// TICK.
+    fn tick(&mut self) -> Answer<A>
+        ensures { Acts self.old Command.Tick result self.new }
+    {
+        self.machine.tick();
+        Answer::Done
+    }
+
+    /// SWITCHES.
+    fn switches(&mut self, word: u16) -> Answer<A>
+        ensures { Acts self.old (Command.Switches word) result self.new }
+    {
+        self.machine.set_switches(word);
+        Answer::Done
+    }
+
     /// SET.
     fn set(&mut self, register: u16, value: u16) -> Answer<A>
         ensures { Acts self.old (Command.Set register value) result self.new }
@@ -157,11 +216,32 @@ impl<A: Allocator + Copy> Panel<A> {
         if let Some(fault) = self.step_refusal(turns) {
             return Answer::Refused(fault);
         }
-        let (made, reason) = run(&mut self.machine, turns);
+        self.make_run(turns, false)
+    }
+
+    /// CONTINUE.
+    fn continue_run(&mut self, turns: u32) -> Answer<A>
+        ensures { Acts self.old (Command.Continue turns) result self.new }
+    {
+        if let Some(fault) = self.step_refusal(turns) {
+            return Answer::Refused(fault);
+        }
+        self.make_run(turns, true)
+    }
+
+    /// Makes a run, and takes what was typed in it.
+    fn make_run(&mut self, turns: u32, until_idle: bool) -> Answer<A>
+        requires { self.old.turns + turns ≤ 2 ^ 62 }
+        ensures { Stops until_idle turns self.old result self.new }
+    {
+        let (made, reason) = run(&mut self.machine, turns, until_idle);
+        let pc = self.machine.regs().pc;
+        let typed = self.machine.take_typed();
         Answer::Stop {
+            typed: Bytes::from_vec(typed),
             reason,
             turns: made,
-            pc: self.machine.regs().pc,
+            pc,
         }
     }
 }

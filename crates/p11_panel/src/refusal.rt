@@ -1,5 +1,6 @@
 ghost use Rattle.std.specs.Prelude.{◌≡◌, ◌≤◌, ◌+◌, ◌*◌, ◌<◌, ◌^◌, true, length, IfNone};
-ghost use Rattle.p11_panel.specs.Commands.{examine_fault, deposit_fault, start_fault, step_fault, touches_io_page};
+ghost use Rattle.p11_panel.specs.Commands.{examine_fault, deposit_fault, start_fault, key_fault, step_fault};
+ghost use Rattle.p11_panel.specs.Commands.{touches_io_page};
 ghost use Rattle.p11_panel.specs.Ranges.{answers_at, all_answer};
 
 use crate::panel::Panel;
@@ -114,7 +115,18 @@ impl<A: Allocator> Panel<A> {
         None
     }
 
-    /// Why STEP is refused, if it is.
+    /// Why KEY is refused, if it is.
+    #[tactic(auto, unfolding(crate::specs::Commands::key_fault))]
+    pub(crate) fn key_refusal(&self, text: &[u8]) -> Option<Fault>
+        ensures { result ≡ key_fault text.now self.now }
+    {
+        if text.len() > self.machine.room() as usize {
+            return Some(Fault::KeysFull);
+        }
+        None
+    }
+
+    /// Why STEP and CONTINUE are refused, if they are.
     #[tactic(auto, unfolding(crate::specs::Commands::step_fault))]
     pub(crate) fn step_refusal(&self, turns: u32) -> Option<Fault>
         ensures fault { result ≡ step_fault turns self.now }

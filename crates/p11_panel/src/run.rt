@@ -1,17 +1,34 @@
 ghost use Rattle.std.specs.Prelude.{◌≡◌, ◌≤◌, ◌+◌, ◌^◌};
-ghost use Rattle.p11_panel.specs.Runs.{IsRun, never_idles};
+ghost use Rattle.p11_panel.specs.Runs.{IsRun, stops_idling};
 
 use p11_cpu::{Machine, Turn};
 use p11_lines::StopReason;
 use std::alloc::Allocator;
 
-/// Makes turns, up to so many, to the first that halts, or to one that wants memory that was refused: how many were made,
-/// and why no more.
-pub(crate) fn run<A: Allocator>(machine: &mut Machine<A>, turns: u32) -> (u32, StopReason)
+/// Whether a run stops for idling.
+fn idles<A: Allocator>(machine: &Machine<A>, asked: bool) -> bool
+    ensures { result ≡ stops_idling asked machine.now.visible }
+{
+    if !asked {
+        return false;
+    }
+    machine.idle()
+}
+
+/// Makes turns, up to so many, to the first that halts, to one that wants memory that was refused, or, where that is asked,
+/// until the machine idles: how many were made, and why no more.
+pub(crate) fn run<A: Allocator>(
+    machine: &mut Machine<A>,
+    turns: u32,
+    until_idle: bool,
+) -> (u32, StopReason)
     requires { machine.old.visible.turns + turns ≤ 2 ^ 62 }
-    ensures { IsRun never_idles turns machine.old.visible result.0 result.1 machine.new.visible }
+    ensures { IsRun (stops_idling until_idle) turns machine.old.visible result.0 result.1 machine.new.visible }
 {
     for made in 0..turns {
+        if idles(machine, until_idle) {
+            return (made, StopReason::Idle);
+        }
         if machine.prepare_turn().is_err() {
             return (made, StopReason::Memory);
         }

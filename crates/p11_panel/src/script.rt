@@ -48,9 +48,14 @@ fn command<A: Allocator>(line: Line<A>) -> Command<A>
         Line::Examine { address, count } => Command::Examine { address, count },
         Line::Deposit { address, words } => Command::Deposit { address, words },
         Line::Start { address } => Command::Start { address },
+        Line::Key { text } => Command::Key { text },
+        Line::Tick => Command::Tick,
+        Line::Switches { word } => Command::Switches { word },
         Line::Set { register, value } => Command::Set { register, value },
         Line::Step { turns } => Command::Step { turns },
+        Line::Continue { turns } => Command::Continue { turns },
         Line::Regs => Command::Regs,
+        Line::Device => Command::Device,
     }
 }
 

@@ -499,7 +499,7 @@ fn four_commands_have_four_answers(rt: HostRuntime) -> Result<(), Fail> {
     let (_, answers) = play(alloc, config, commands.as_slice())?;
     assert!(rt;
         matches!(answers.as_slice(), [Answer::Done, Answer::Done,
-        Answer::Stop { reason: StopReason::Halt, turns: 3, pc: 0o1012 },
+        Answer::Stop { reason: StopReason::Halt, turns: 3, pc: 0o1012, .. },
         Answer::Registers(registers)] if registers.general[0] == 0o14 && registers.mark == Mark::Halted && registers.turns == 3)
     );
     Ok(())
