@@ -629,6 +629,45 @@ fn a_session_goes_on_where_memory_refuses_a_line(rt: HostRuntime) -> Result<(), 
 }
 
 #[test]
+fn a_run_that_memory_stops_before_a_character_is_finished_later(
+    rt: HostRuntime,
+) -> Result<(), Fail> {
+    let Ok(config) = Config::new(4, 0) else {
+        return Err(Fail::from(NoMemory));
+    };
+    let heap = LocalHeap::new(rt.alloc(), 16384)?;
+    let mut panel = Panel::new(&heap, config)?;
+    let mut written = Vec::new(rt.alloc());
+    // WAIT, and a B that is typed 64 turns after it is written to XBUF
+    let mut begin = b"deposit 1000 1\nstart 1000\ndeposit 777566 102\n".as_slice();
+    assert_eq!(rt; session(&heap, &mut panel, &mut begin, &mut written), Ok(3));
+    let ballast = fill(rt.alloc(), &heap)?;
+    let mut run = b"continue 100\nstep 1\n".as_slice();
+    assert_eq!(rt; session(&heap, &mut panel, &mut run, &mut written), Ok(2));
+    drop(ballast);
+    let mut rest = b"continue 100\ncontinue 100\n".as_slice();
+    assert_eq!(rt; session(&heap, &mut panel, &mut rest, &mut written), Ok(2));
+    assert_eq!(rt;
+        written.as_slice(),
+        b"OK\nOK\nOK\nSTOP memory 63 001002\nSTOP memory 0 001002\nTTY B\nSTOP idle 1 001002\nSTOP idle 0 001002\n".as_slice()
+    );
+    Ok(())
+}
+
+#[test]
+fn devices_answer_the_operator(rt: HostRuntime) -> Result<(), Fail> {
+    let script =
+        b"device\nkey A\\012\ntick\nswitches 123\nexamine 777570\nstep 70\ndevice\nexamine 777562\nset 11 340\ndeposit 1000 1 0\nstart 1000\ndeposit 777566 134\ncontinue 100\nkey 01234567890123456789012345678901234567890123456789012345678901234\nkey 0123456789012345678901234567890123456789012345678901234567890\nkey xyz\ndevice\n";
+    let (written, answered) = run_script(rt.alloc(), script)?;
+    assert_eq!(rt;
+        written.as_slice(),
+        b"KW11 000200\nDL11 000000 000000 000200 keys 0 rx - tx -\nREQ 0 0 0 0\nOK\nOK\nOK\nEXAM 777570 000123\nSTOP halt 1 000002\nKW11 000200\nDL11 000200 000101 000200 keys 1 rx - tx -\nREQ 0 0 0 0\nEXAM 777562 000101\nOK\nOK\nOK\nOK\nTTY \\134\nSTOP idle 64 001002\n? 8 KeysFull\nOK\nOK\nKW11 000200\nDL11 000200 000012 000200 keys 64 rx - tx -\nREQ 0 0 0 0\n".as_slice()
+    );
+    assert_eq!(rt; answered, Ok(17));
+    Ok(())
+}
+
+#[test]
 fn a_list_of_commands_that_memory_refuses(rt: HostRuntime) -> Result<(), Fail> {
     let Ok(config) = Config::new(4, 0) else {
         return Err(Fail::from(NoMemory));

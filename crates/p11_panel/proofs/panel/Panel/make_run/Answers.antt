@@ -9,6 +9,6 @@ returns g c =
     let last = c.run-made.new.machine.visible in
     let run : IsRun (stops_idling c.args.until_idle) c.args.turns c.args.self.now c.run-made.result.0 c.run-made.result.1 last = rw (← c.self.view_is) c.run-made.ensures in
     let shown : ◌≡◌ {A = Answer g.row.A.Denot} (answers.Stop c.from_vec.result c.run-made.result.1 c.run-made.result.0 c.regs-pc.result.pc) (answers.Stop last.bus.typed c.run-made.result.1 c.run-made.result.0 last.processor.registers.pc) =
-        ap (λ typed. answers.Stop typed c.run-made.result.1 c.run-made.result.0 c.regs-pc.result.pc) (c.from_vec.ensures ∙ c.take_typed-typed.ensures.typed)
-        ∙ ap (λ registers. answers.Stop last.bus.typed c.run-made.result.1 c.run-made.result.0 registers.pc) c.regs-pc.ensures in
+    ap (λ typed. answers.Stop typed c.run-made.result.1 c.run-made.result.0 c.regs-pc.result.pc) (c.from_vec.ensures ∙ c.take_typed-typed.ensures.typed)
+    ∙ ap (λ registers. answers.Stop last.bus.typed c.run-made.result.1 c.run-made.result.0 registers.pc) c.regs-pc.ensures in
     (c.run-made.result.0, c.run-made.result.1, last, run, shown, c.take_typed-typed.ensures.state)
