@@ -1,3 +1,4 @@
+pub mod Closing
 pub mod ControlWord
 pub mod Init
 pub mod Kept

@@ -30,7 +30,7 @@ registers_put : (s : Rk11State) (n : ℕ) (parts : Registers × Option MountedDr
 unfolding with_registers_and_drive
 registers_put s n parts = refl
 
-idle : (s : Rk11State) → s.registers.transfer ≡ None → IsReachable s
+pub idle : (s : Rk11State) → s.registers.transfer ≡ None → IsReachable s
 idle s none run = absurd (both_ways _ (ap (λ (o : Option ℕ). is_some o) none) run)
 
 same : (s t : Rk11State) → t.registers.transfer ≡ s.registers.transfer → t.registers.disk_address ≡ s.registers.disk_address
@@ -40,7 +40,7 @@ same s t transfer place there h run =
     (ap is_on_disk place ∙ before.0, there before.1)
 
 -- the registers alone are changed
-same_registers : (s : Rk11State) (r : Registers) → r.transfer ≡ s.registers.transfer → r.disk_address ≡ s.registers.disk_address
+pub same_registers : (s : Rk11State) (r : Registers) → r.transfer ≡ s.registers.transfer → r.disk_address ≡ s.registers.disk_address
     → IsReachable s → IsReachable (record s { registers = r })
 unfolding drive_of
 same_registers s r transfer place h =
@@ -68,7 +68,7 @@ running s r drive there number placed run =
           (drive_put s r n (Some drive) (there_number s n there) (λ none. absurd (both_ways _ (ap (λ (d : Option MountedDrive). is_some d) none) there))),
     )
 
-none_of : (o : Option ℕ) → not (is_some o) ≡ true → o ≡ None
+pub none_of : (o : Option ℕ) → not (is_some o) ≡ true → o ≡ None
 none_of None h = refl
 none_of (Some n) h = cc h
 
@@ -80,32 +80,32 @@ checked_place : (r : Registers) (drive : MountedDrive) → drive_check r drive �
 unfolding drive_check is_on_disk
 checked_place r drive none uses = grind arith
 
-begun : (turn : ℕ) (f : Function) (drive : MountedDrive) (r : Registers) → r.transfer ≡ None → (uses_place f ≡ true → is_on_disk r.disk_address ≡ true)
+begun : (turn : ℕ) (f : Function) (drive : MountedDrive) (r : Registers) → (is_some r.transfer ≡ true → is_on_disk r.disk_address ≡ true) → (uses_place f ≡ true → is_on_disk r.disk_address ≡ true)
     → ((registers_after_begin turn f drive r).disk_address ≡ r.disk_address) × (is_some (registers_after_begin turn f drive r).transfer ≡ true → is_on_disk r.disk_address ≡ true)
 unfolding registers_after_begin uses_place ended requested
-begun turn ControlReset drive r none place = (refl, λ run. not_running r.transfer none run)
-begun turn Write drive r none place = (refl, λ run. place refl)
-begun turn Read drive r none place = (refl, λ run. place refl)
-begun turn WriteCheck drive r none place = (refl, λ run. place refl)
-begun turn Seek drive r none place = (refl, λ run. not_running None refl run)
-begun turn ReadCheck drive r none place = (refl, λ run. place refl)
-begun turn DriveReset drive r none place = (refl, λ run. not_running None refl run)
-begun turn WriteLock drive r none place = (refl, λ run. not_running None refl run)
+begun turn ControlReset drive r before place = (refl, before)
+begun turn Write drive r before place = (refl, λ run. place refl)
+begun turn Read drive r before place = (refl, λ run. place refl)
+begun turn WriteCheck drive r before place = (refl, λ run. place refl)
+begun turn Seek drive r before place = (refl, λ run. not_running None refl run)
+begun turn ReadCheck drive r before place = (refl, λ run. place refl)
+begun turn DriveReset drive r before place = (refl, λ run. not_running None refl run)
+begun turn WriteLock drive r before place = (refl, λ run. not_running None refl run)
 
-after_checks : (turn : ℕ) (s : Rk11State) (drive : MountedDrive) (c : Option Failure) → drive_check s.registers drive ≡ c → selected s ≡ Some drive → s.registers.transfer ≡ None
+after_checks : (turn : ℕ) (s : Rk11State) (drive : MountedDrive) (c : Option Failure) → drive_check s.registers drive ≡ c → selected s ≡ Some drive → IsReachable s
     → IsReachable (with_registers_and_drive s s.registers.disk_address.drive ((after_check turn s.registers drive c).0, Some (after_check turn s.registers drive c).1))
 unfolding failed ended requested
-after_checks turn s drive (Some failure) check is none =
+after_checks turn s drive (Some failure) check is h =
     running s _ _ (ap (λ (d : Option MountedDrive). is_some d) is) refl (λ run. not_running None refl run)
-after_checks turn s drive None check is none =
-    let b = begun turn s.registers.function drive s.registers none (checked_place s.registers drive check) in
+after_checks turn s drive None check is h =
+    let b = begun turn s.registers.function drive s.registers (λ run. (h run).0) (checked_place s.registers drive check) in
     running s _ _ (ap (λ (d : Option MountedDrive). is_some d) is) (ap (λ (p : Place). p.drive) b.0) (λ run. ap is_on_disk b.0 ∙ b.1 run)
 
-started_on : (turn : ℕ) (s : Rk11State) (d : Option MountedDrive) → selected s ≡ d → s.registers.transfer ≡ None
+pub started_on : (turn : ℕ) (s : Rk11State) (d : Option MountedDrive) → selected s ≡ d → IsReachable s
     → IsReachable (with_registers_and_drive s s.registers.disk_address.drive (after_start_on turn s.registers d))
 unfolding after_start with_registers_and_drive failed ended requested
-started_on turn s None is none = idle _ refl
-started_on turn s (Some drive) is none = after_checks turn s drive (drive_check s.registers drive) refl is none
+started_on turn s None is h = idle _ refl
+started_on turn s (Some drive) is h = after_checks turn s drive (drive_check s.registers drive) refl is h
 
 started : (turn : ℕ) (s : Rk11State) → s.registers.transfer ≡ None → IsReachable (disk_after_start turn s)
 unfolding disk_after_start failed ended requested
@@ -115,7 +115,7 @@ started turn s none =
     else with_registers_and_drive s s.registers.disk_address.drive (after_start_on turn s.registers (selected s))) in
     elim (cases_Bool s.registers.format) [
       | inl holds ↦ subst P (sym holds) (idle (record s { registers = failed Programming s.registers }) refl)
-      | inr fails ↦ subst P (sym fails) (started_on turn s (selected s) refl none)
+      | inr fails ↦ subst P (sym fails) (started_on turn s (selected s) refl (idle s none))
     ]
 
 gone : (turn : ℕ) (s : Rk11State) → s.registers.transfer ≡ None → IsReachable (disk_after_go turn s)
@@ -144,7 +144,7 @@ control_written turn word s h =
           ])
     ]
 
-value_kept : (register : Register) (word : ℕ) (r : Registers) → (registers_with_value register word r).transfer ≡ r.transfer
+pub value_kept : (register : Register) (word : ℕ) (r : Registers) → (registers_with_value register word r).transfer ≡ r.transfer
 unfolding registers_with_value
 value_kept register.DriveStatus word r = refl
 value_kept register.Error word r = refl
@@ -215,7 +215,7 @@ sector_followed turn difference r on =
     let f = followed_inside turn (nat_le (words_left r) 256) difference q in
     (f.0 ∙ place, λ run. next_on_disk r.disk_address on (λ over. f.1 run (ap (λ (p : Place). p.cylinder) place ∙ over)))
 
-moved_on : (turn : ℕ) (s : Rk11State) (d : Option MountedDrive) (memory : Words) → selected s ≡ d → is_on_disk s.registers.disk_address ≡ true
+pub moved_on : (turn : ℕ) (s : Rk11State) (d : Option MountedDrive) (memory : Words) → selected s ≡ d → is_on_disk s.registers.disk_address ≡ true
     → IsReachable (with_registers_and_drive s s.registers.disk_address.drive ((after_sector_on turn s.registers d memory).0, (after_sector_on turn s.registers d memory).1))
 unfolding after_sector with_registers_and_drive failed ended requested
 moved_on turn s None memory is on = idle _ refl
@@ -263,7 +263,7 @@ still_there s r n k d keeps there =
           ∙ keeps here
     ]
 
-seek_acted : (turn n : ℕ) (s : Rk11State) → IsReachable s → IsReachable (disk_after_seek turn n s)
+pub seek_acted : (turn n : ℕ) (s : Rk11State) → IsReachable s → IsReachable (disk_after_seek turn n s)
 unfolding disk_after_seek
 seek_acted turn n s h =
     let kept = seek_kept turn n s.registers (drive_of s n) in
@@ -309,10 +309,14 @@ put_reachable s n d there h =
     let P : Rk11State → Type 0 = λ t. IsReachable t in
     subst P (sym (drive_put_alone s n d)) (λ run. ((h run).0, there run))
 
+-- a drive that holds a pack, if it held one before
+pub changed_reachable : (s : Rk11State) (n : ℕ) (d : Option MountedDrive) → (is_some (drive_of s n) ≡ true → is_some d ≡ true) → IsReachable s → IsReachable (with_drive s n d)
+changed_reachable s n d keeps h =
+    put_reachable s n d (λ run. still_there s s.registers n s.registers.disk_address.drive d keeps (h run).1) h
+
 pub reachable_after_mount : (s : Rk11State) (n : ℕ) (contents : Contents) → IsReachable s → IsReachable (disk_after_mount n contents s)
 unfolding disk_after_mount
-reachable_after_mount s n contents h =
-    put_reachable s n _ (λ run. still_there s s.registers n s.registers.disk_address.drive _ (λ here. refl) (h run).1) h
+reachable_after_mount s n contents h = changed_reachable s n _ (λ here. refl) h
 
 pub reachable_after_unmount : (s : Rk11State) (n : ℕ) → is_busy n s ≡ false → IsReachable s → IsReachable (disk_after_unmount n s)
 unfolding disk_after_unmount is_busy

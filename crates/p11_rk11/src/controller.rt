@@ -40,6 +40,7 @@ pub struct Rk11<A: Allocator = Global> {
 
 impl<A: Allocator> Model for Rk11<A> {
     ghost use Rattle.std.specs.Prelude.{◌≡◌, length};
+    ghost use Rattle.p11_rk11.specs.Laws.{IsReachable};
     ghost use Rattle.p11_rk11.specs.State.{drive_count};
     ghost use Rattle.p11_rk11.specs.View.{Rk11View, view_of};
 
@@ -47,7 +48,7 @@ impl<A: Allocator> Model for Rk11<A> {
 
     ghost view = { λ c. view_of c.registers c.drives };
 
-    ghost invariant = { λ c. length c.drives ≡ drive_count };
+    ghost invariant = { λ c. (length c.drives ≡ drive_count) × IsReachable (view_of c.registers c.drives).state };
 }
 
 impl<A: Allocator> Rk11<A> {

@@ -5,6 +5,8 @@ use Rattle.std.proofs.Math.ListN.{length-map}
 use Rattle.p11_rk11.specs.declared.registers.Registers.{Registers}
 use Rattle.p11_rk11.specs.Drives.{MountedDrive}
 use Rattle.p11_rk11.specs.View.{Rk11View, visible_drive}
+use Rattle.p11_rk11.specs.Registers.{cleared_registers}
+use Rattle.p11_rk11.proofs.Closing.{kept_idle}
 use Rattle.p11_rk11.proofs.controller.Rk11.init.Goals as goal
 
 pub loop-n-init : goal.loop-n-init
@@ -26,8 +28,12 @@ unfolding disk_after_init
 returns-clause-state g c =
     let seen : map visible_drive c.self.inside.drives ≡ c.loop-n.self.state.drives = ap (λ (v : Rk11View). v.state.drives) c.self.view_is in
     let len : length c.loop-n.self.state.drives ≡ drive_count =
-    sym (ap (λ (l : List (Option MountedDrive)). length l) seen) ∙ length-map c.self.inside.drives visible_drive ∙ c.self.invariant in
+    sym (ap (λ (l : List (Option MountedDrive)). length l) seen) ∙ length-map c.self.inside.drives visible_drive ∙ c.self.invariant.0 in
     let at : c.loop-n.n ≡ drive_count = omega (arith, c.loop-n-test.false, c.loop-n.auto.n-end) in
     let whole : Registers → List (Option MountedDrive) → Rk11State = λ r drives. record { registers = r; drives = drives } in
     ap (λ (drives : List (Option MountedDrive)). whole c.cleared-self-inside.result drives) (seen ∙ all_drives _ _ _ at c.loop-n.invariant.drives len)
     ∙ ap (λ (r : Registers). whole r (map drive_after_init c.args.self.now.state.drives)) c.cleared-self-inside.ensures
+
+pub invariant_of-self : goal.invariant_of-self
+unfolding cleared_registers
+invariant_of-self g c = kept_idle _ _ (ap (λ (r : Registers). r.transfer) c.cleared-self-inside.ensures) c.self.invariant.0

@@ -10,19 +10,19 @@ returns-then-n-lt-DRIVES-clause-state g c = rw (← c.self.view_is) (visible_sam
 
 pub returns-then-n-lt-DRIVES-clause-ok : goal.returns-then-n-lt-DRIVES-clause-ok
 returns-then-n-lt-DRIVES-clause-ok g c =
-    on_ok _ (prepared_after _ _ _ _ c.drive-n.ensures.value c.if-n-lt-DRIVES.true c.self.invariant) c.prepare.ensures.ok
+    on_ok _ (prepared_after _ _ _ _ c.drive-n.ensures.value c.if-n-lt-DRIVES.true c.self.invariant.0) c.prepare.ensures.ok
 
 pub returns-then-n-lt-DRIVES-clause-listed : goal.returns-then-n-lt-DRIVES-clause-listed
 returns-then-n-lt-DRIVES-clause-listed g c listed =
     let P : Rk11View → Type 0 = λ v. is_listed (selected v.state) (sector_number v.state.registers.disk_address) ≡ true in
     c.prepare.ensures.listed
-    (ap (λ drive. is_listed drive (sector_number c.self.inside.registers.disk_address)) (sym (selected_seen _ _ _ _ _ c.drive-n.ensures.value c.if-n-lt-DRIVES.true c.self.invariant refl))
+    (ap (λ drive. is_listed drive (sector_number c.self.inside.registers.disk_address)) (sym (selected_seen _ _ _ _ _ c.drive-n.ensures.value c.if-n-lt-DRIVES.true c.self.invariant.0 refl))
     ∙ subst P (sym c.self.view_is) listed)
 
 pub returns-then-n-lt-DRIVES-clause-again : goal.returns-then-n-lt-DRIVES-clause-again
 returns-then-n-lt-DRIVES-clause-again g c prepared =
     c.prepare.ensures.again
-    (selected_prepared _ _ _ _ _ _ c.self.view_is c.drive-n.ensures.value c.if-n-lt-DRIVES.true c.self.invariant refl prepared)
+    (selected_prepared _ _ _ _ _ _ c.self.view_is c.drive-n.ensures.value c.if-n-lt-DRIVES.true c.self.invariant.0 refl prepared)
 
 pub returns-else-n-lt-DRIVES-clause-ok : goal.returns-else-n-lt-DRIVES-clause-ok
 returns-else-n-lt-DRIVES-clause-ok g c =
@@ -31,4 +31,4 @@ returns-else-n-lt-DRIVES-clause-ok g c =
 pub returns-then-n-lt-DRIVES-clause-others : goal.returns-then-n-lt-DRIVES-clause-others
 returns-then-n-lt-DRIVES-clause-others g c =
     rw (← c.self.view_is)
-    (others_prepared _ _ _ _ _ _ c.if-n-lt-DRIVES.true c.self.invariant refl c.prepare.ensures.others)
+    (others_prepared _ _ _ _ _ _ c.if-n-lt-DRIVES.true c.self.invariant.0 refl c.prepare.ensures.others)

@@ -6,7 +6,7 @@ use Rattle.p11_rk11.proofs.controller.Rk11.seek_due.Goals as goal
 pub returns-then-n-lt-DRIVES : goal.returns-then-n-lt-DRIVES
 returns-then-n-lt-DRIVES g c =
     rw (← c.self.view_is)
-    (c.seek_due.ensures ∙ ap seek_due (sym (drive_seen _ _ _ _ _ c.if-n-lt-DRIVES.true c.self.invariant refl)))
+    (c.seek_due.ensures ∙ ap seek_due (sym (drive_seen _ _ _ _ _ c.if-n-lt-DRIVES.true c.self.invariant.0 refl)))
 
 pub returns-else-n-lt-DRIVES : goal.returns-else-n-lt-DRIVES
 unfolding seek_due

@@ -10,7 +10,7 @@ returns-then-n-lt-DRIVES-clause-value g c =
     (c.status.ensures.value
     ∙ ap (λ sector. status_of c.args.turn sector (visible_drive (get_or c.self.inside.drives c.drive-n.result c.index-self-n.result))) c.sector.ensures
     ∙ ap (λ drive. status_of c.args.turn c.self.inside.registers.disk_address.sector drive)
-    (sym (selected_seen c.self.inside.registers c.self.inside.drives _ _ _ c.drive-n.ensures.value c.if-n-lt-DRIVES.true c.self.invariant refl)))
+    (sym (selected_seen c.self.inside.registers c.self.inside.drives _ _ _ c.drive-n.ensures.value c.if-n-lt-DRIVES.true c.self.invariant.0 refl)))
 
 pub returns-else-n-lt-DRIVES-clause-value : goal.returns-else-n-lt-DRIVES-clause-value
 unfolding status_of
