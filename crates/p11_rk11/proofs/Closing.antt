@@ -7,11 +7,12 @@ use Rattle.p11_rk11.specs.Drives.{MountedDrive, MountedState}
 use Rattle.p11_rk11.specs.Laws.{IsReachable}
 use Rattle.p11_rk11.specs.Memory.{Words}
 use Rattle.p11_rk11.specs.Place.{is_on_disk}
+use Rattle.p11_rk11.specs.Registers.{is_due}
 use Rattle.p11_rk11.specs.Starts.{after_start_on}
 use Rattle.p11_rk11.specs.State.{Rk11State, drive_count, drive_of, selected, with_drive, with_registers_and_drive, drive_after_init, disk_after_unmount, is_busy}
 use Rattle.p11_rk11.specs.View.{Rk11View, view_of, visible_drive}
 use Rattle.p11_rk11.proofs.Parts.{drive_changed, drive_mapped, part_changed, selected_changed}
-use Rattle.p11_rk11.proofs.Reachable.{idle, same_registers, changed_reachable, reachable_after_unmount, seek_acted, started_on, moved_on}
+use Rattle.p11_rk11.proofs.Reachable.{idle, same_registers, changed_reachable, reachable_after_unmount, seek_acted, started_on, moved_on, due_runs, there_number}
 
 abbrev pub Kept : Registers → List (Option MountedState) → Type 0
 Kept r drives = (length drives ≡ drive_count) × IsReachable (view_of r drives).state
@@ -66,6 +67,16 @@ kept_started turn n r r' drives b b' d same lt is done h =
     let s : Rk11State = (view_of r drives).state in
     kept_drive r' drives n b' (with_registers_and_drive s r.disk_address.drive (after_start_on turn r (selected s))) h.0
     (selected_changed r r' drives n b b' d (λ r drive. after_start_on turn r drive) same lt h.0 is done) (started_on turn s (selected s) refl h.1)
+
+-- what a transfer that is due finds
+pub due_place : (turn n : ℕ) (v : Rk11View) (r : Registers) (drives : List (Option MountedState)) → view_of r drives ≡ v → n ≡ r.disk_address.drive
+    → is_due turn v.state.registers.transfer ≡ true → Kept r drives → (n < drive_count) × (is_on_disk r.disk_address ≡ true)
+due_place turn n v r drives view same due h =
+    let s : Rk11State = (view_of r drives).state in
+    let P : Rk11View → Type 0 = λ v. is_due turn v.state.registers.transfer ≡ true in
+    let Q : ℕ → Type 0 = λ k. k < drive_count in
+    let place = h.1 (due_runs turn r.transfer (subst P (sym view) due)) in
+    (subst Q (sym same) (there_number s r.disk_address.drive place.1), place.0)
 
 pub kept_moved : (turn n : ℕ) (r r' : Registers) (drives : List (Option MountedState)) (b b' d : Option MountedState) (m m' : Words) → n ≡ r.disk_address.drive → n < drive_count
     → is_on_disk r.disk_address ≡ true → b ≡ get_or drives n d → after_sector_on turn r (visible_drive b) m ≡ (r', visible_drive b', m') → Kept r drives → Kept r' (set drives n b')

@@ -9,11 +9,10 @@ use Rattle.p11_overlay.specs.Drive.{Contents}
 use Rattle.p11_rk11.specs.declared.function.Function.{Function}
 use Rattle.p11_rk11.specs.declared.function.Function.TheVariants.{Read}
 use Rattle.p11_rk11.specs.declared.registers.Registers.{Registers}
-use Rattle.p11_rk11.specs.Acts.{addresses, sector_words, stores_of, is_refused, memory_after_sector, after_sector, after_sector_on, disk_after_due_sector, disk_after_transfer, disk_after_turn}
+use Rattle.p11_rk11.specs.Acts.{addresses, sector_words, stores_of, is_refused, memory_after_sector, after_sector, after_sector_on, disk_after_transfer, disk_after_turn}
 use Rattle.p11_rk11.specs.Drives.{MountedDrive}
 use Rattle.p11_rk11.specs.Functions.{uses_memory, is_read}
 use Rattle.p11_rk11.specs.Memory.{Words, has_word, word_at, stored, all_stored, all_held}
-use Rattle.p11_rk11.specs.Place.{is_on_disk}
 use Rattle.p11_rk11.specs.Registers.{is_due, words_moved}
 use Rattle.p11_rk11.specs.State.{Rk11State, selected}
 use Rattle.p11_rk11.proofs.Words.{accepted, both_hold, held_at}
@@ -42,15 +41,11 @@ length-moved turn r (Some drive) memory =
     ]
 
 pub length-memory_after_turn : (s : Rk11State) (memory : Words) (turn : ℕ) → length (disk_after_turn turn s memory).1 ≡ length memory
-unfolding disk_after_turn disk_after_transfer disk_after_due_sector
+unfolding disk_after_turn disk_after_transfer
 length-memory_after_turn s memory turn =
     elim (cases_Bool (is_due turn s.registers.transfer)) [
       | inr fails ↦ rw fails refl
-      | inl holds ↦
-          elim (cases_Bool (is_on_disk s.registers.disk_address)) [
-            | inr off ↦ rw (holds, off) refl
-            | inl on ↦ rw (holds, on) (length-moved turn s.registers (selected s) memory)
-          ]
+      | inl holds ↦ rw holds (length-moved turn s.registers (selected s) memory)
     ]
 
 pub memory_stays : (s : Rk11State) (memory : Words) (turn a : ℕ) → has_word (disk_after_turn turn s memory).1 a ≡ has_word memory a
@@ -106,15 +101,11 @@ none_stored turn s a due none read k lt e =
 
 pub words_left_alone : (s : Rk11State) (memory : Words) (turn a : ℕ) → has_word memory a ≡ true → IsNoneOf a (stores_of turn s)
     → word_at (disk_after_turn turn s memory).1 a ≡ word_at memory a
-unfolding disk_after_turn disk_after_transfer disk_after_due_sector
+unfolding disk_after_turn disk_after_transfer
 words_left_alone s memory turn a here none =
     elim (cases_Bool (is_due turn s.registers.transfer)) [
       | inr fails ↦ rw fails refl
-      | inl holds ↦
-          elim (cases_Bool (is_on_disk s.registers.disk_address)) [
-            | inr off ↦ rw (holds, off) refl
-            | inl on ↦ rw (holds, on) (left_by_drive turn s.registers (selected s) memory a here (none_stored turn s a holds none))
-          ]
+      | inl holds ↦ rw holds (left_by_drive turn s.registers (selected s) memory a here (none_stored turn s a holds none))
     ]
 
 pub stores_bounded : (s : Rk11State) (turn : ℕ) → length (stores_of turn s) ≤ 256

@@ -7,12 +7,12 @@ use Rattle.std.proofs.lemmas.List.{get_or_default, get_or-set_same, get_or-set_o
 use Rattle.std.proofs.Math.Seq.{map-set_same}
 use Rattle.std.proofs.Math.ListN.{get_or-map, length-map}
 use Rattle.p11_rk11.specs.declared.registers.Registers.{Registers}
-use Rattle.p11_rk11.specs.Acts.{after_sector_on, disk_and_memory_with}
+use Rattle.p11_rk11.specs.Acts.{disk_and_memory_with}
 use Rattle.p11_rk11.specs.Memory.{Words}
-use Rattle.p11_rk11.specs.Place.{is_on_disk, sector_number}
+use Rattle.p11_rk11.specs.Place.{sector_number}
 use Rattle.p11_rk11.specs.Functions.{is_write}
 use Rattle.p11_rk11.proofs.Words.{accepted}
-use Rattle.p11_rk11.specs.Registers.{ended, failed, is_due}
+use Rattle.p11_rk11.specs.Registers.{failed, is_due}
 use Rattle.p11_rk11.specs.Starts.{after_start_on}
 use Rattle.p11_rk11.specs.declared.errors.Failure.TheVariants.{NoDisk}
 use Rattle.p11_rk11.specs.Drives.{MountedDrive, MountedState}
@@ -107,13 +107,6 @@ sector_changed r r' drives n b b' d m m' step lt len is done =
     part_changed r r' drives n b b' d (λ _ _. (r', visible_drive b')) lt len is refl in
     ap (λ moved. disk_and_memory_with s n moved) after ∙ ap (λ (t : Rk11State). (t, m')) (sym put)
 
--- where there is no such drive, the registers alone
-pub no_sector_changed : (s : Rk11State) (r : Registers) (n turn : ℕ) (m : Words) → drive_count ≤ n → r ≡ ended s.registers
-    → disk_and_memory_with s n (after_sector_on turn s.registers (drive_of s n) m) ≡ (record s { registers = r }, m)
-no_sector_changed s r n turn m le is =
-    ap (λ drive. disk_and_memory_with s n (after_sector_on turn s.registers drive m)) (no_drive_seen s n le)
-    ∙ ap (λ (t : Rk11State). (t, m)) (sym (no_part_changed s (ended s.registers) n None le) ∙ ap (λ (q : Registers). record s { registers = q }) (sym is))
-
 -- The same for the drive that RKDA selects, whose number n the code has read.
 
 pub selected_changed : (r r' : Registers) (drives : List (Option MountedState)) (n : ℕ) (b b' d : Option MountedState) (step : Registers → Option MountedDrive → Registers × Option MountedDrive)
@@ -141,11 +134,6 @@ pub selected_moved : (r r' : Registers) (drives : List (Option MountedState)) (n
 selected_moved r r' drives n b b' d m m' step same lt len is done =
     let s : Rk11State = (view_of r drives).state in
     ap (λ (k : ℕ). disk_and_memory_with s k (step r (drive_of s k) m)) (sym same) ∙ sector_changed r r' drives n b b' d m m' step lt len is done
-
-pub none_moved : (s : Rk11State) (r : Registers) (n turn : ℕ) (m : Words) → n ≡ s.registers.disk_address.drive → drive_count ≤ n → r ≡ ended s.registers
-    → disk_and_memory_with s s.registers.disk_address.drive (after_sector_on turn s.registers (selected s) m) ≡ (record s { registers = r }, m)
-none_moved s r n turn m same le is =
-    ap (λ (k : ℕ). disk_and_memory_with s k (after_sector_on turn s.registers (drive_of s k) m)) (sym same) ∙ no_sector_changed s r n turn m le is
 
 pub selected_prepared : (v : Rk11View) (r : Registers) (drives : List (Option MountedState)) (n : ℕ) (b d : Option MountedState)
     → view_of r drives ≡ v → n ≡ r.disk_address.drive → n < drive_count → length drives ≡ drive_count → b ≡ get_or drives n d
@@ -199,14 +187,8 @@ pub on_ok : {P Q E : Type 0} (r : Result (Unit {0}) E) → (P → Q) → OnOk r 
 on_ok (Ok u) f p = f p
 on_ok (Err e) f p = p
 
--- a test of three parts
-pub all_three : (a b c : Bool) → a ≡ true → b ≡ true → c ≡ true → a && b && c ≡ true
-all_three a b c ha hb hc = rw (ha, hb, hc) refl
-
-pub last_of_three : (a b c : Bool) → a && b && c ≡ true → c ≡ true
-last_of_three true true c h = h
-last_of_three true false c h = cc h
-last_of_three false b c h = cc h
+pub both_true : (a b : Bool) → a ≡ true → b ≡ true → a && b ≡ true
+both_true a b ha hb = rw (ha, hb) refl
 
 -- a drive that was changed by itself
 pub drive_mapped : (r : Registers) (drives : List (Option MountedState)) (n : ℕ) (b b' d : Option MountedState) (f : Option MountedDrive → Option MountedDrive)
@@ -216,20 +198,15 @@ drive_mapped r drives n b b' d f lt len is done =
     let s : Rk11State = (view_of r drives).state in
     drive_changed r drives n b' lt ∙ ap (λ drive. with_drive s n drive) (done ∙ ap f (sym (drive_seen r drives n b d lt len is)))
 
-pub due_on_disk : (turn : ℕ) (s : Rk11State) → write_is_due turn s ≡ true → is_on_disk s.registers.disk_address ≡ true
-unfolding write_is_due
-due_on_disk turn s due =
-    last_of_three (is_due turn s.registers.transfer) (is_write s.registers.function) (is_on_disk s.registers.disk_address) due
-
 pub due_needless : (turn : ℕ) (s : Rk11State) → needs_memory turn s ≡ false → write_is_due turn s ≡ true → is_listed (selected s) (sector_number s.registers.disk_address) ≡ true
 unfolding needs_memory
 due_needless turn s needless due = accepted _ _ needless due
 
 -- what a due sector of a write finds
 pub prepared_to_move : (turn : ℕ) (v : Rk11View) → IsPreparedFor turn v → is_due turn v.state.registers.transfer ≡ true
-    → is_on_disk v.state.registers.disk_address ≡ true → is_write v.state.registers.function ≡ true → IsPreparedSector v
+    → is_write v.state.registers.function ≡ true → IsPreparedSector v
 unfolding IsPreparedFor write_is_due
-prepared_to_move turn v prepared due place write = prepared (all_three _ _ _ due write place)
+prepared_to_move turn v prepared due write = prepared (both_true _ _ due write)
 
 pub prepared_if_ok : {E : Type 0} (turn : ℕ) (v : Rk11View) (r : Result (Unit {0}) E) → OnOk r (IsPreparedSector v) → OnOk r (IsPreparedFor turn v)
 unfolding IsPreparedFor

@@ -10,7 +10,7 @@ use Rattle.p11_rk11.specs.declared.function.Function.TheVariants.{ControlReset, 
 use Rattle.p11_rk11.specs.declared.register.Register.{Register}
 use Rattle.p11_rk11.specs.declared.register.Register.TheVariants as register
 use Rattle.p11_rk11.specs.declared.registers.Registers.{Registers}
-use Rattle.p11_rk11.specs.Acts.{disk_after_turn, disk_after_transfer, disk_after_due_sector, disk_after_seek, disk_after_seeks, after_seek_on, after_sector_on, after_sector, registers_after_seek, is_refused, differs}
+use Rattle.p11_rk11.specs.Acts.{disk_after_turn, disk_after_transfer, disk_after_seek, disk_after_seeks, after_seek_on, after_sector_on, after_sector, registers_after_seek, is_refused, differs}
 use Rattle.p11_rk11.specs.Drives.{MountedDrive}
 use Rattle.p11_rk11.specs.Functions.{uses_place, is_reset}
 use Rattle.p11_rk11.specs.Laws.{IsReachable}
@@ -47,7 +47,7 @@ same_registers s r transfer place h =
     same s (record s { registers = r }) transfer place
     (λ there. ap (λ (p : Place). is_some (drive_of s p.drive)) place ∙ there) h
 
-there_number : (s : Rk11State) (n : ℕ) → is_some (drive_of s n) ≡ true → n < drive_count
+pub there_number : (s : Rk11State) (n : ℕ) → is_some (drive_of s n) ≡ true → n < drive_count
 unfolding drive_of
 there_number s n there =
     elim (cases_Bool (nat_lt n drive_count)) [
@@ -230,16 +230,17 @@ moved_on turn s (Some drive) memory is on =
           (λ run. ap is_on_disk f.0 ∙ f.1 run))
     ]
 
+pub due_runs : (turn : ℕ) (due : Option ℕ) → is_due turn due ≡ true → is_some due ≡ true
+unfolding is_due
+due_runs turn None holds = cc holds
+due_runs turn (Some due) holds = refl
+
 transfer_acted : (s : Rk11State) (memory : Words) (turn : ℕ) → IsReachable s → IsReachable (disk_after_transfer turn s memory).0
-unfolding disk_after_transfer disk_after_due_sector ended requested
+unfolding disk_after_transfer
 transfer_acted s memory turn h =
     elim (cases_Bool (is_due turn s.registers.transfer)) [
       | inr fails ↦ rw fails h
-      | inl holds ↦
-          elim (cases_Bool (is_on_disk s.registers.disk_address)) [
-            | inr off ↦ rw (holds, off) (idle _ refl)
-            | inl on ↦ rw (holds, on) (moved_on turn s (selected s) memory refl on)
-          ]
+      | inl holds ↦ rw holds (moved_on turn s (selected s) memory refl (h (due_runs turn s.registers.transfer holds)).0)
     ]
 
 seek_kept : (turn n : ℕ) (r : Registers) (d : Option MountedDrive)

@@ -6,10 +6,9 @@ use Rattle.std.proofs.lemmas.List.{get_or_past, get_or-set_same, get_or-set_othe
 use Rattle.std.proofs.Math.Seq.{map-set_same}
 use Rattle.std.proofs.Math.ListN.{get_or-map}
 use Rattle.p11_rk11.specs.declared.registers.Registers.{Registers}
-use Rattle.p11_rk11.specs.Acts.{disk_after_turn, disk_after_transfer, disk_after_due_sector, disk_after_seek, disk_after_seeks, after_seek_on, after_sector_on, after_sector, drive_after_sector, drive_after_seek, drive_after_arrival, registers_after_seek, is_refused}
+use Rattle.p11_rk11.specs.Acts.{disk_after_turn, disk_after_transfer, disk_after_seek, disk_after_seeks, after_seek_on, after_sector_on, after_sector, drive_after_sector, drive_after_seek, drive_after_arrival, registers_after_seek, is_refused}
 use Rattle.p11_rk11.specs.Drives.{MountedDrive}
 use Rattle.p11_rk11.specs.Memory.{Words}
-use Rattle.p11_rk11.specs.Place.{is_on_disk}
 use Rattle.p11_rk11.specs.Registers.{is_due, ended, failed, requested, registers_after_sector, next_sector_or_end}
 use Rattle.p11_rk11.specs.State.{Rk11State, drive_count, drive_of, with_drive, with_registers_and_drive, selected, seek_turn, seek_due, earlier, due_among, disk_due, IsBefore, IsNotAfter}
 
@@ -163,29 +162,17 @@ record LaterTransfer (turn : ℕ) (s t : Rk11State) : Type 0 where
   transfer : IsBefore turn t.registers.transfer
   seeks : (k : ℕ) → seek_due (drive_of t k) ≡ seek_due (drive_of s k)
 
-registers_alone : (s : Rk11State) (r : Registers) (k : ℕ) → seek_due (drive_of (record s { registers = r }) k) ≡ seek_due (drive_of s k)
-unfolding drive_of
-registers_alone s r k = refl
-
-after_due_sector : (s : Rk11State) (memory : Words) (turn : ℕ) → LaterTransfer turn s (disk_after_due_sector turn s memory).0
-unfolding disk_after_due_sector ended requested with_registers_and_drive
-after_due_sector s memory turn =
-    elim (cases_Bool (is_on_disk s.registers.disk_address)) [
-      | inr off ↦ rw off (record { transfer = tt; seeks = registers_alone s (ended s.registers) })
-      | inl on ↦
+after_transfer : (s : Rk11State) (memory : Words) (turn : ℕ) → IsNotAfter turn s.registers.transfer → LaterTransfer turn s (disk_after_transfer turn s memory).0
+unfolding disk_after_transfer with_registers_and_drive
+after_transfer s memory turn h =
+    elim (cases_Bool (is_due turn s.registers.transfer)) [
+      | inr fails ↦ rw fails (record { transfer = above turn s.registers.transfer h fails; seeks = λ k. refl })
+      | inl holds ↦
           let moved = moved_later turn s.registers (selected s) memory in
-          rw on (record {
+          rw holds (record {
             transfer = moved.0;
             seeks = λ k. same_seeks s (after_sector_on turn s.registers (selected s) memory).0 s.registers.disk_address.drive k (after_sector_on turn s.registers (selected s) memory).1 moved.1;
           })
-    ]
-
-after_transfer : (s : Rk11State) (memory : Words) (turn : ℕ) → IsNotAfter turn s.registers.transfer → LaterTransfer turn s (disk_after_transfer turn s memory).0
-unfolding disk_after_transfer
-after_transfer s memory turn h =
-    elim (cases_Bool (is_due turn s.registers.transfer)) [
-      | inl holds ↦ rw holds (after_due_sector s memory turn)
-      | inr fails ↦ rw fails (record { transfer = above turn s.registers.transfer h fails; seeks = λ k. refl })
     ]
 
 -- what becomes of a drive whose seek may be due

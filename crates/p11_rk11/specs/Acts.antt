@@ -13,7 +13,7 @@ use Rattle.p11_rk11.specs.Address.{word_address}
 use Rattle.p11_rk11.specs.Drives.{MountedDrive}
 use Rattle.p11_rk11.specs.Functions.{uses_memory, is_read}
 use Rattle.p11_rk11.specs.Memory.{Words, all_held, all_stored}
-use Rattle.p11_rk11.specs.Place.{is_on_disk, sector_number}
+use Rattle.p11_rk11.specs.Place.{sector_number}
 use Rattle.p11_rk11.specs.Registers.{is_due, ended, failed, requested, registers_after_sector, words_moved}
 use Rattle.p11_rk11.specs.Sector.{words_of_sector, bytes_of_words, words_from, sector_from}
 use Rattle.p11_rk11.specs.State.{Rk11State, drive_count, drive_of, with_registers_and_drive, selected, seek_turn}
@@ -62,8 +62,7 @@ after_sector turn r drive memory =
       memory_after_sector r.function r drive.contents memory,
     )
 
--- A transfer has a mounted drive from its checks on, as long as the conditions of the calls are kept. One
--- without would end.
+-- A running transfer has a mounted drive. (One without would end.)
 abbrev pub after_sector_on : ℕ → Registers → Option MountedDrive → Words → Registers × Option MountedDrive × Words
 after_sector_on turn r None memory = (ended r, None, memory)
 after_sector_on turn r (Some drive) memory =
@@ -73,16 +72,12 @@ after_sector_on turn r (Some drive) memory =
 abbrev pub disk_and_memory_with : Rk11State → ℕ → Registers × Option MountedDrive × Words → Rk11State × Words
 disk_and_memory_with s n parts = (with_registers_and_drive s n (parts.0, parts.1), parts.2)
 
--- the sector of a transfer that is due
-unfoldable pub disk_after_due_sector : ℕ → Rk11State → Words → Rk11State × Words
-disk_after_due_sector turn s memory =
-    if is_on_disk s.registers.disk_address
-    then disk_and_memory_with s s.registers.disk_address.drive (after_sector_on turn s.registers (selected s) memory)
-    else (record s { registers = ended s.registers }, memory)
-
+-- the sector of a transfer, if it is due
 unfoldable pub disk_after_transfer : ℕ → Rk11State → Words → Rk11State × Words
 disk_after_transfer turn s memory =
-    if is_due turn s.registers.transfer then disk_after_due_sector turn s memory else (s, memory)
+    if is_due turn s.registers.transfer
+    then disk_and_memory_with s s.registers.disk_address.drive (after_sector_on turn s.registers (selected s) memory)
+    else (s, memory)
 
 -- The addresses to which the acts of a turn may store: those of the words of a read's sector that is due.
 unfoldable pub stores_of : ℕ → Rk11State → List ℕ

@@ -5,7 +5,7 @@ use Rattle.p11_overlay.specs.Drive.{Contents, DriveState}
 use Rattle.p11_rk11.specs.declared.registers.Registers.{Registers}
 use Rattle.p11_rk11.specs.Drives.{MountedDrive, MountedState}
 use Rattle.p11_rk11.specs.Functions.{is_write}
-use Rattle.p11_rk11.specs.Place.{is_on_disk, sector_number}
+use Rattle.p11_rk11.specs.Place.{sector_number}
 use Rattle.p11_rk11.specs.Registers.{is_due}
 use Rattle.p11_rk11.specs.State.{Rk11State, selected}
 
@@ -42,7 +42,7 @@ contents_lent (Some drive) = Some drive.contents
 
 -- whether a disk write's sector is due in a turn
 unfoldable pub write_is_due : ℕ → Rk11State → Bool
-write_is_due turn s = is_due turn s.registers.transfer && is_write s.registers.function && is_on_disk s.registers.disk_address
+write_is_due turn s = is_due turn s.registers.transfer && is_write s.registers.function
 
 -- Prepared for a turn: the drive is prepared for a disk write's sector that is due in it.
 abbrev pub IsPreparedDrive : Option MountedDrive → List ℕ → ℕ → Type 0

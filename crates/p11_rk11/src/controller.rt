@@ -1,7 +1,6 @@
 //! The controller with its drives.
 ghost use Rattle.std.specs.Prelude.{◌≡◌, ℕ, ◌<◌, ◌≤◌, ◌^◌, ◌+◌, ◌*◌, Some, None, is_some, IsSome, true, false, not, OnOk, OnErr, IsOk, option_map, slice_set, slice_index_or, option_copied, [], replicate};
-ghost use Rattle.p11_rk11.specs.Acts.{disk_after_turn, after_sector_on, disk_and_memory_with, disk_after_transfer, disk_after_due_sector, stores_of, disk_after_seek, disk_after_seeks};
-ghost use Rattle.p11_rk11.specs.Functions.{is_write};
+ghost use Rattle.p11_rk11.specs.Acts.{disk_after_turn, after_sector_on, disk_and_memory_with, disk_after_transfer, stores_of, disk_after_seek, disk_after_seeks};
 ghost use Rattle.p11_rk11.specs.Place.{is_on_disk, sector_number};
 ghost use Rattle.p11_rk11.specs.Registers.{cleared_registers};
 ghost use Rattle.p11_rk11.specs.Starts.{disk_after_write, disk_after_control_write, disk_after_value_write, disk_after_go, disk_after_start, after_start_on};
@@ -274,41 +273,28 @@ impl<A: Allocator> Rk11<A> {
         }
     }
 
-    /// Moves the due sector of the transfer.
-    #[tactic(auto, unfolding(crate::specs::Acts::disk_after_due_sector))]
+    /// Moves the due sector of the transfer, which has its place on a mounted drive.
     fn move_sector<M: WordMemory>(&mut self, turn: u64, memory: &mut M)
         requires turn { turn ≤ 2 ^ 62 }
         requires due { is_due turn self.old.state.registers.transfer ≡ true }
         requires prepared { IsPreparedFor turn self.old }
-        requires room { 256 ≤ M.room memory.old }
-        ensures moved { disk_after_due_sector turn self.old.state (M.words memory.old)
-            ≡ (self.new.state, M.words memory.new) }
-        ensures room { M.room memory.old ≤ M.room memory.new + 256 }
-    {
-        if self.registers.disk_address.is_on_disk() {
-            self.move_on(turn, memory);
-        } else {
-            self.registers.end();
-        }
-    }
-
-    /// Moves the due sector of the selected drive.
-    fn move_on<M: WordMemory>(&mut self, turn: u64, memory: &mut M)
-        requires turn { turn ≤ 2 ^ 62 }
-        requires place { is_on_disk self.old.state.registers.disk_address ≡ true }
-        requires prepared { is_write self.old.state.registers.function ≡ true → IsPreparedSector self.old }
         requires room { 256 ≤ M.room memory.old }
         ensures moved { disk_and_memory_with self.old.state self.old.state.registers.disk_address.drive
             (after_sector_on turn self.old.state.registers (selected self.old.state) (M.words memory.old)) ≡
             (self.new.state, M.words memory.new) }
         ensures room { M.room memory.old ≤ M.room memory.new + 256 }
     {
-        let n = self.registers.disk_address.drive();
-        if n < DRIVES {
-            bay::move_sector(&mut self.drives[n], turn, &mut self.registers, memory);
-        } else {
-            self.registers.end();
-        }
+        let n = self.due_drive(turn);
+        bay::move_sector(&mut self.drives[n], turn, &mut self.registers, memory);
+    }
+
+    /// The drive of a transfer that is due.
+    fn due_drive(&self, turn: u64) -> usize
+        requires { is_due turn self.now.state.registers.transfer ≡ true }
+        ensures value { result ≡ self.now.state.registers.disk_address.drive }
+        ensures bound { result < drive_count }
+    {
+        self.registers.disk_address.drive()
     }
 
     /// Finishes the seeks that are due, by number of their drives.
@@ -457,15 +443,13 @@ impl<A: Allocator> Rk11<A> {
     /// Whether a disk write's sector is due in a turn.
     #[tactic(auto, unfolding(crate::specs::View::write_is_due))]
     fn writes_in(&self, turn: u64) -> bool
-        ensures { result ≡ write_is_due turn self.now.state }
+        ensures value { result ≡ write_is_due turn self.now.state }
+        ensures place { result ≡ true → is_on_disk self.now.state.registers.disk_address ≡ true }
     {
         if !is_due(turn, self.transfer_due()) {
             return false;
         }
-        if !self.registers.function.is_write() {
-            return false;
-        }
-        self.registers.disk_address.is_on_disk()
+        self.registers.function.is_write()
     }
 
     /// The due turn of a drive's seek.

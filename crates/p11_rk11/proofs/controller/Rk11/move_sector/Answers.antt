@@ -1,22 +1,32 @@
-use Rattle.std.proofs.Common.{sym, ap, ◌∙◌, subst, ◌≡◌, true, rules}
+use Rattle.std.proofs.Common.{◌≡◌, true, refl, sym, ap, ◌∙◌, subst}
+use Rattle.p11_rk11.specs.Acts.{after_sector_on}
 use Rattle.p11_rk11.specs.Functions.{is_write}
-use Rattle.p11_rk11.specs.Place.{is_on_disk}
-use Rattle.p11_rk11.specs.View.{Rk11View, IsPreparedSector}
-use Rattle.p11_rk11.proofs.Parts.{prepared_to_move}
-use Rattle.p11_rk11.specs.declared.registers.Registers.{Registers}
-use Rattle.p11_rk11.specs.Registers.{ended, requested}
-use Rattle.p11_rk11.proofs.Closing.{kept_idle}
+use Rattle.p11_rk11.specs.View.{Rk11View}
+use Rattle.p11_rk11.proofs.Closing.{due_place, kept_moved}
+use Rattle.p11_rk11.proofs.Parts.{selected_moved, selected_prepared, prepared_to_move}
 use Rattle.p11_rk11.proofs.controller.Rk11.move_sector.Goals as goal
 
-pub move_on-requires : goal.move_on-requires
-move_on-requires g c =
-    let P : Rk11View → Type 0 = λ v. is_on_disk v.state.registers.disk_address ≡ true in
-    let place : is_on_disk c.args.self.now.state.registers.disk_address ≡ true =
-    subst P c.self.view_is (sym c.is_on_disk.ensures ∙ c.if-is_on_disk.true) in
-    let prepared : is_write c.args.self.now.state.registers.function ≡ true → IsPreparedSector c.args.self.now =
-    λ write. prepared_to_move c.args.turn c.args.self.now c.requires.prepared c.requires.due place write in
-    (search rules, (c.requires.turn, (place, (prepared, c.requires.room))))
+pub move_sector-requires-clause-place : goal.move_sector-requires-clause-place
+move_sector-requires-clause-place g c =
+    let same = c.due_drive-n.ensures.value ∙ sym (ap (λ (v : Rk11View). v.state.registers.disk_address.drive) c.self.view_is) in
+    (due_place c.args.turn _ _ c.self.inside.registers c.self.inside.drives c.self.view_is same c.requires.due c.self.invariant).1
+
+pub move_sector-requires-clause-prepared : goal.move_sector-requires-clause-prepared
+move_sector-requires-clause-prepared g c write =
+    let same = c.due_drive-n.ensures.value ∙ sym (ap (λ (v : Rk11View). v.state.registers.disk_address.drive) c.self.view_is) in
+    let P : Rk11View → Type 0 = λ v. is_write v.state.registers.function ≡ true in
+    selected_prepared _ _ _ _ _ _ c.self.view_is same c.due_drive-n.ensures.bound c.self.invariant.0 refl
+    (prepared_to_move c.args.turn c.args.self.now c.requires.prepared c.requires.due (subst P c.self.view_is write))
+
+pub returns-clause-moved : goal.returns-clause-moved
+returns-clause-moved g c =
+    let same = c.due_drive-n.ensures.value ∙ sym (ap (λ (v : Rk11View). v.state.registers.disk_address.drive) c.self.view_is) in
+    rw (← c.self.view_is)
+    (selected_moved _ _ _ _ _ _ _ _ _ (λ r drive memory. after_sector_on c.args.turn r drive memory) same c.due_drive-n.ensures.bound c.self.invariant.0 refl c.move_sector.ensures.moved)
 
 pub invariant_of-self : goal.invariant_of-self
-unfolding ended requested
-invariant_of-self g c = kept_idle _ _ (ap (λ (r : Registers). r.transfer) c.«end».ensures) c.self.invariant.0
+invariant_of-self g c =
+    let same = c.due_drive-n.ensures.value ∙ sym (ap (λ (v : Rk11View). v.state.registers.disk_address.drive) c.self.view_is) in
+    let place = due_place c.args.turn _ _ c.self.inside.registers c.self.inside.drives c.self.view_is same c.requires.due c.self.invariant in
+    kept_moved c.args.turn _ c.self.inside.registers c.move_sector.new.registers c.self.inside.drives _ c.move_sector.new.bay _ _ _ same place.0
+    place.1 refl c.move_sector.ensures.moved c.self.invariant
