@@ -28,7 +28,7 @@ impl<A: Allocator> Model for Drive<A> {
     ghost Value = { DriveState };
 
     ghost view = { λ d. record
-    { contents = contents_of d.sectors.items d.is_protected d.changed.items; prepared = sector_numbers } };
+        { contents = contents_of d.sectors.items d.is_protected d.changed.items; prepared = sector_numbers } };
 
     ghost invariant = { λ d. IsKept d.sectors.items d.is_protected d.changed.items (vec_capacity d.changed) };
 }
