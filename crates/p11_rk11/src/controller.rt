@@ -1,21 +1,15 @@
-//! The controller with its drives.
-ghost use Rattle.std.specs.Prelude.{◌≡◌, ℕ, ◌<◌, ◌≤◌, ◌^◌, ◌+◌, ◌*◌, Some, None, is_some, IsSome, true, false, not, OnOk, OnErr, IsOk, option_map, slice_set, slice_index_or, option_copied, [], replicate};
-ghost use Rattle.p11_rk11.specs.Acts.{disk_after_turn, after_sector_on, disk_and_memory_with, disk_after_transfer, stores_of, disk_after_seek, disk_after_seeks};
-ghost use Rattle.p11_rk11.specs.Place.{is_on_disk, sector_number};
-ghost use Rattle.p11_rk11.specs.Registers.{cleared_registers};
+//! The controller with its drives: what its registers show, writes of them, INIT, and the packs.
+ghost use Rattle.std.specs.Prelude.{◌≡◌, ◌<◌, ◌≤◌, ◌^◌, ◌+◌, ◌*◌, Some, is_some, true, false, option_copied, slice_set, [], replicate};
 ghost use Rattle.p11_rk11.specs.Starts.{disk_after_write, disk_after_control_write, disk_after_value_write, disk_after_go, disk_after_start, after_start_on};
-ghost use Rattle.p11_rk11.specs.State.{new_disk, disk_word, drive_of, selected, with_drive, with_registers_and_drive, disk_due, due_among, seek_due, is_busy, contents_of, heads_at, drive_after_mount, disk_after_init, disk_after_mount, disk_after_unmount, drive_count, drive_after_init, disk_after_service, status_of, earlier};
-ghost use Rattle.p11_rk11.specs.Registers.{is_due};
+ghost use Rattle.p11_rk11.specs.State.{new_disk, disk_word, drive_of, selected, with_drive, with_registers_and_drive, disk_due, seek_due, is_busy, contents_of, heads_at, disk_after_init, disk_after_mount, disk_after_unmount, drive_count, drive_after_init, disk_after_service, status_of, earlier};
 
 use crate::bay;
 use crate::errors::{Failure, bit};
-use crate::memory::WordMemory;
 use crate::mounted::Mounted;
 use crate::register::Register;
-use crate::registers::{Registers, is_due};
-use crate::sector::Stores;
+use crate::registers::Registers;
 use p11_overlay::Drive;
-use std::alloc::{AllocError, Allocator, Global};
+use std::alloc::{Allocator, Global};
 use std::marker::Model;
 
 /// The number of drives. Their numbers begin with 0.
@@ -33,8 +27,8 @@ pub struct Heads {
 /// The RK11 disk controller with its drives.
 #[derive(Debug, Drop)]
 pub struct Rk11<A: Allocator = Global> {
-    registers: Registers,
-    drives: [Option<Mounted<A>>; DRIVES],
+    pub(crate) registers: Registers,
+    pub(crate) drives: [Option<Mounted<A>>; DRIVES],
 }
 
 impl<A: Allocator> Model for Rk11<A> {
@@ -51,7 +45,7 @@ impl<A: Allocator> Model for Rk11<A> {
 }
 
 impl<A: Allocator> Rk11<A> {
-    ghost use Rattle.p11_rk11.specs.View.{IsPreparedFor, KeepsPrepared, IsPreparedSector, needs_memory, write_is_due, contents_lent, is_listed};
+    ghost use Rattle.p11_rk11.specs.View.{contents_lent};
 
     /// A controller with no drive mounted.
     #[tactic(auto, unfolding(crate::specs::State::new_disk))]
@@ -196,125 +190,6 @@ impl<A: Allocator> Rk11<A> {
         }
     }
 
-    /// Finds the memory that the acts of a turn may need: for the sector of a disk write that is due in it.
-    /// An `Err` says that there was no memory.
-    pub fn prepare(&mut self, turn: u64) -> Result<(), AllocError>
-        ensures state { self.new.state ≡ self.old.state }
-        ensures ok { OnOk result (IsPreparedFor turn self.new) }
-        ensures others { KeepsPrepared self.old self.new }
-        ensures err { OnErr result (self.new ≡ self.old) }
-        ensures needless { needs_memory turn self.old.state ≡ false → IsOk result }
-        ensures again { IsPreparedFor turn self.old → IsOk result }
-    {
-        if !self.writes_in(turn) {
-            return Ok(());
-        }
-        self.prepare_drive()
-    }
-
-    /// Finds the memory for a write of the sector at RKDA.
-    fn prepare_drive(&mut self) -> Result<(), AllocError>
-        requires { is_on_disk self.old.state.registers.disk_address ≡ true }
-        ensures state { self.new.state ≡ self.old.state }
-        ensures ok { OnOk result (IsPreparedSector self.new) }
-        ensures others { KeepsPrepared self.old self.new }
-        ensures err { OnErr result (self.new ≡ self.old) }
-        ensures listed { is_listed (selected self.old.state) (sector_number self.old.state.registers.disk_address)
-            ≡ true → IsOk result }
-        ensures again { IsPreparedSector self.old → IsOk result }
-    {
-        let n = self.registers.disk_address.drive();
-        if n < DRIVES {
-            bay::prepare(&mut self.drives[n], self.registers.disk_address)
-        } else {
-            Ok(())
-        }
-    }
-
-    /// What the controller does in a turn: the transfer moves its sector where one is due, and then
-    /// the seeks that are due finish, by number of their drives.
-    #[tactic(auto, unfolding(crate::specs::Acts::disk_after_turn))]
-    pub fn act<M: WordMemory>(&mut self, turn: u64, memory: &mut M)
-        requires turn { turn ≤ 2 ^ 62 }
-        requires prepared { IsPreparedFor turn self.old }
-        requires room { 256 ≤ M.room memory.old }
-        ensures moved { disk_after_turn turn self.old.state (M.words memory.old)
-            ≡ (self.new.state, M.words memory.new) }
-        ensures room { M.room memory.old ≤ M.room memory.new + 256 }
-    {
-        self.move_due(turn, memory);
-        self.finish_seeks(turn);
-    }
-
-    /// The addresses to which the acts of a turn may store: those of the words of a read's sector that is due.
-    #[tactic(auto, unfolding(crate::specs::Acts::stores_of))]
-    pub fn stores(&self, turn: u64) -> Stores
-        ensures { result ≡ stores_of turn self.now.state }
-    {
-        if is_due(turn, self.transfer_due()) && self.registers.function.is_read() {
-            Stores::new(self.registers.span())
-        } else {
-            Stores::none()
-        }
-    }
-
-    /// Moves a transfer's sector, if one is due.
-    #[tactic(auto, unfolding(crate::specs::Acts::disk_after_transfer))]
-    fn move_due<M: WordMemory>(&mut self, turn: u64, memory: &mut M)
-        requires turn { turn ≤ 2 ^ 62 }
-        requires prepared { IsPreparedFor turn self.old }
-        requires room { 256 ≤ M.room memory.old }
-        ensures moved { disk_after_transfer turn self.old.state (M.words memory.old)
-            ≡ (self.new.state, M.words memory.new) }
-        ensures room { M.room memory.old ≤ M.room memory.new + 256 }
-    {
-        if is_due(turn, self.transfer_due()) {
-            self.move_sector(turn, memory);
-        }
-    }
-
-    /// Moves the due sector of the transfer, which has its place on a mounted drive.
-    fn move_sector<M: WordMemory>(&mut self, turn: u64, memory: &mut M)
-        requires turn { turn ≤ 2 ^ 62 }
-        requires due { is_due turn self.old.state.registers.transfer ≡ true }
-        requires prepared { IsPreparedFor turn self.old }
-        requires room { 256 ≤ M.room memory.old }
-        ensures moved { disk_and_memory_with self.old.state self.old.state.registers.disk_address.drive
-            (after_sector_on turn self.old.state.registers (selected self.old.state) (M.words memory.old)) ≡
-            (self.new.state, M.words memory.new) }
-        ensures room { M.room memory.old ≤ M.room memory.new + 256 }
-    {
-        let n = self.due_drive(turn);
-        bay::move_sector(&mut self.drives[n], turn, &mut self.registers, memory);
-    }
-
-    /// The drive of a transfer that is due.
-    fn due_drive(&self, turn: u64) -> usize
-        requires { is_due turn self.now.state.registers.transfer ≡ true }
-        ensures value { result ≡ self.now.state.registers.disk_address.drive }
-        ensures bound { result < drive_count }
-    {
-        self.registers.disk_address.drive()
-    }
-
-    /// Finishes the seeks that are due, by number of their drives.
-    fn finish_seeks(&mut self, turn: u64)
-        ensures { self.new.state ≡ disk_after_seeks turn drive_count self.old.state }
-    {
-        for n in 0..DRIVES {
-            self.finish_seek(turn, n);
-        }
-    }
-
-    /// Finishes the seek of a drive, if one is due.
-    #[tactic(auto, unfolding(crate::specs::Acts::disk_after_seek))]
-    fn finish_seek(&mut self, turn: u64, n: usize)
-        requires { n < drive_count }
-        ensures { self.new.state ≡ disk_after_seek turn n self.old.state }
-    {
-        bay::finish_seek(&mut self.drives[n], turn, n as u8, &mut self.registers);
-    }
-
     /// The earliest turn in which the transfer or a seek acts, if one is under way.
     #[tactic(auto, unfolding(crate::specs::State::disk_due))]
     pub fn due(&self) -> Option<u64>
@@ -438,18 +313,6 @@ impl<A: Allocator> Rk11<A> {
         ensures prepared { self.new.prepared ≡ self.old.prepared }
     {
         bay::stop(&mut self.drives[n]);
-    }
-
-    /// Whether a disk write's sector is due in a turn.
-    #[tactic(auto, unfolding(crate::specs::View::write_is_due))]
-    fn writes_in(&self, turn: u64) -> bool
-        ensures value { result ≡ write_is_due turn self.now.state }
-        ensures place { result ≡ true → is_on_disk self.now.state.registers.disk_address ≡ true }
-    {
-        if !is_due(turn, self.transfer_due()) {
-            return false;
-        }
-        self.registers.function.is_write()
     }
 
     /// The due turn of a drive's seek.

@@ -1,6 +1,7 @@
 //! The RK11 disk controller with its RK05 drives.
 #![tactic(auto)]
 
+mod acts;
 mod address;
 mod bay;
 mod controller;
