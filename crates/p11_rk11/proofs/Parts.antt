@@ -1,5 +1,5 @@
 -- A controller is seen by its parts: one drive read, and one drive changed beside the registers.
-use Rattle.std.proofs.Common.{◌≡◌, ℕ, ◌<◌, ◌≤◌, Bool, true, false, List, [], length, map, set, get_or, Option, Some, None, is_some, refl, sym, ap, subst, ◌∙◌, arith, inl, inr}
+use Rattle.std.proofs.Common.{◌≡◌, ℕ, zero, suc, ◌<◌, ◌≤◌, Bool, true, false, List, [], ◌∷◌, length, map, set, get_or, Option, Some, None, is_some, refl, sym, ap, subst, ◌∙◌, arith, inl, inr}
 use Rattle.std.specs.Prelude.{IsTrue, nat_eq, ◌&&◌, Result, Ok, Err, OnOk, nat_lt, if◌then◌else◌, slice_set, slice_index_or}
 use Rattle.std.specs.List.{list_any}
 use Rattle.std.proofs.lemmas.Bool.{both_ways, cases_eq, lt-ltb, le-ltb}
@@ -18,6 +18,15 @@ use Rattle.p11_rk11.specs.declared.errors.Failure.TheVariants.{NoDisk}
 use Rattle.p11_rk11.specs.Drives.{MountedDrive, MountedState}
 use Rattle.p11_rk11.specs.State.{Rk11State, drive_count, heads_at, drive_of, selected, with_drive, with_registers_and_drive}
 use Rattle.p11_rk11.specs.View.{Rk11View, view_of, visible_drive, prepared_sectors, prepared_on, IsPreparedDrive, IsPreparedSector, IsPreparedFor, KeepsPrepared, write_is_due, needs_memory, is_listed}
+
+set_again : {X : Type 0} (xs : List X) (n : ℕ) (a b : X) → set (set xs n a) n b ≡ set xs n b
+set_again [] n a b = refl
+set_again (x ∷ xs) zero a b = refl
+set_again (x ∷ xs) (suc n) a b = ap (λ ys. x ∷ ys) (set_again xs n a b)
+
+-- a drive that was taken and put back
+pub put_back : (drives taken after : List (Option MountedState)) (n : ℕ) (b : Option MountedState) → taken ≡ set drives n None → after ≡ set taken n b → after ≡ set drives n b
+put_back drives taken after n b rest put = put ∙ ap (λ (l : List (Option MountedState)). set l n b) rest ∙ set_again drives n None b
 
 -- what is seen of a drive that is there
 pub drive_seen : (r : Registers) (drives : List (Option MountedState)) (n : ℕ) (b d : Option MountedState) → n < drive_count → length drives ≡ drive_count

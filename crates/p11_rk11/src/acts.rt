@@ -43,7 +43,10 @@ impl<A: Allocator> Rk11<A> {
     {
         let n = self.registers.disk_address.drive();
         if n < DRIVES {
-            bay::prepare(&mut self.drives[n], self.registers.disk_address)
+            let mut drive = self.drives.take(n);
+            let outcome = bay::prepare(&mut drive, self.registers.disk_address);
+            self.drives.put(n, drive);
+            outcome
         } else {
             Ok(())
         }
@@ -103,7 +106,9 @@ impl<A: Allocator> Rk11<A> {
         ensures room { M.room memory.old ≤ M.room memory.new + 256 }
     {
         let n = self.due_drive(turn);
-        bay::move_sector(&mut self.drives[n], turn, &mut self.registers, memory);
+        let mut drive = self.drives.take(n);
+        bay::move_sector(&mut drive, turn, &mut self.registers, memory);
+        self.drives.put(n, drive);
     }
 
     /// The drive of a transfer that is due.
@@ -130,7 +135,9 @@ impl<A: Allocator> Rk11<A> {
         requires { n < drive_count }
         ensures { self.new.state ≡ disk_after_seek turn n self.old.state }
     {
-        bay::finish_seek(&mut self.drives[n], turn, n as u8, &mut self.registers);
+        let mut drive = self.drives.take(n);
+        bay::finish_seek(&mut drive, turn, n as u8, &mut self.registers);
+        self.drives.put(n, drive);
     }
 
     /// Whether a disk write's sector is due in a turn.

@@ -4,6 +4,7 @@ ghost use Rattle.p11_rk11.specs.Starts.{disk_after_write, disk_after_control_wri
 ghost use Rattle.p11_rk11.specs.State.{new_disk, disk_word, drive_of, selected, with_drive, with_registers_and_drive, disk_due, seek_due, is_busy, contents_of, heads_at, disk_after_init, disk_after_mount, disk_after_unmount, drive_count, drive_after_init, disk_after_service, status_of, earlier};
 
 use crate::bay;
+use crate::drives::Drives;
 use crate::errors::{Failure, bit};
 use crate::mounted::Mounted;
 use crate::register::Register;
@@ -28,7 +29,7 @@ pub struct Heads {
 #[derive(Debug, Drop)]
 pub struct Rk11<A: Allocator = Global> {
     pub(crate) registers: Registers,
-    pub(crate) drives: [Option<Mounted<A>>; DRIVES],
+    pub(crate) drives: Drives<A>,
 }
 
 impl<A: Allocator> Model for Rk11<A> {
@@ -55,7 +56,7 @@ impl<A: Allocator> Rk11<A> {
     {
         Rk11 {
             registers: Registers::cleared(),
-            drives: [None, None],
+            drives: Drives::new(),
         }
     }
 
@@ -91,7 +92,11 @@ impl<A: Allocator> Rk11<A> {
     {
         let n = self.registers.disk_address.drive();
         if n < DRIVES {
-            bay::status(&self.drives[n], turn, self.registers.disk_address.sector())
+            bay::status(
+                self.drives.at(n),
+                turn,
+                self.registers.disk_address.sector(),
+            )
         } else {
             0
         }
@@ -184,7 +189,9 @@ impl<A: Allocator> Rk11<A> {
     {
         let n = self.registers.disk_address.drive();
         if n < DRIVES {
-            bay::start(&mut self.drives[n], turn, &mut self.registers);
+            let mut drive = self.drives.take(n);
+            bay::start(&mut drive, turn, &mut self.registers);
+            self.drives.put(n, drive);
         } else {
             self.registers.fail(Failure::NoDisk);
         }
@@ -241,7 +248,7 @@ impl<A: Allocator> Rk11<A> {
         ensures state { self.new.state ≡ with_drive self.old.state n (Some mounted.visible) }
         ensures prepared { self.new.prepared ≡ slice_set self.old.prepared n mounted.prepared }
     {
-        self.drives[n] = Some(mounted);
+        self.drives.put(n, Some(mounted));
     }
 
     /// Takes the pack off a drive and drops it.
@@ -252,7 +259,7 @@ impl<A: Allocator> Rk11<A> {
         ensures state { self.new.state ≡ disk_after_unmount n self.old.state }
         ensures prepared { self.new.prepared ≡ slice_set self.old.prepared n [] }
     {
-        self.drives[n] = None;
+        self.drives.put(n, None);
     }
 
     /// Whether a drive seeks or has the running transfer on it.
@@ -275,7 +282,7 @@ impl<A: Allocator> Rk11<A> {
         ensures mounted { is_some result ≡ is_some (drive_of self.now.state n) }
     {
         if n < DRIVES {
-            bay::drive(&self.drives[n])
+            bay::drive(self.drives.at(n))
         } else {
             None
         }
@@ -287,7 +294,7 @@ impl<A: Allocator> Rk11<A> {
         requires mounted { is_some (drive_of self.now.state n) ≡ true }
         ensures { Some result ≡ heads_at (drive_of self.now.state n) }
     {
-        match bay::heads(&self.drives[n]) {
+        match bay::heads(self.drives.at(n)) {
             Some(heads) => heads,
             None => unreachable!(),
         }
@@ -312,7 +319,9 @@ impl<A: Allocator> Rk11<A> {
         ensures state { self.new.state ≡ with_drive self.old.state n (drive_after_init (drive_of self.old.state n)) }
         ensures prepared { self.new.prepared ≡ self.old.prepared }
     {
-        bay::stop(&mut self.drives[n]);
+        let mut drive = self.drives.take(n);
+        bay::stop(&mut drive);
+        self.drives.put(n, drive);
     }
 
     /// The due turn of a drive's seek.
@@ -321,7 +330,7 @@ impl<A: Allocator> Rk11<A> {
         ensures { result ≡ seek_due (drive_of self.now.state n) }
     {
         if n < DRIVES {
-            bay::seek_due(&self.drives[n])
+            bay::seek_due(self.drives.at(n))
         } else {
             None
         }

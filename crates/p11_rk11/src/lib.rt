@@ -5,6 +5,7 @@ mod acts;
 mod address;
 mod bay;
 mod controller;
+mod drives;
 mod errors;
 mod function;
 mod laws;

@@ -1,4 +1,5 @@
-use Rattle.std.proofs.Common.{[], ◌∷◌, None, refl, ap}
+use Rattle.std.proofs.Common.{List, Option, length, ap}
+use Rattle.p11_rk11.specs.Drives.{MountedState}
 use Rattle.p11_rk11.specs.declared.registers.Registers.{Registers}
 use Rattle.p11_rk11.specs.Registers.{cleared_registers}
 use Rattle.p11_rk11.proofs.Closing.{kept_idle}
@@ -6,4 +7,5 @@ use Rattle.p11_rk11.proofs.controller.Rk11.new.Goals as goal
 
 pub invariant_of-result : goal.invariant_of-result
 unfolding cleared_registers
-invariant_of-result g c = kept_idle c.cleared.result (None ∷ None ∷ []) (ap (λ (r : Registers). r.transfer) c.cleared.ensures) refl
+invariant_of-result g c =
+    kept_idle c.cleared.result c.new.result (ap (λ (r : Registers). r.transfer) c.cleared.ensures) (ap (λ (l : List (Option MountedState)). length l) c.new.ensures)

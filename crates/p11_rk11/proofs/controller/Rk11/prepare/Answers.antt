@@ -1,4 +1,4 @@
-use Rattle.std.proofs.Common.{sym, ◌∙◌, rules}
+use Rattle.std.proofs.Common.{sym, ◌∙◌}
 use Rattle.p11_rk11.proofs.Parts.{due_needless, due_prepared, prepared_if_ok, not_due_prepared}
 use Rattle.p11_rk11.proofs.controller.Rk11.prepare.Goals as goal
 
@@ -8,7 +8,7 @@ returns-then-not-writes_in-clause-ok g c =
 
 pub prepare_drive-requires : goal.prepare_drive-requires
 prepare_drive-requires g c =
-    (search rules, c.writes_in.ensures.place c.if-not-writes_in.false)
+    c.writes_in.ensures.place c.if-not-writes_in.false
 
 pub returns-clause-ok : goal.returns-clause-ok
 returns-clause-ok g c = prepared_if_ok c.args.turn _ _ c.prepare_drive.ensures.ok

@@ -1,4 +1,4 @@
-use Rattle.std.proofs.Common.{refl, sym, ap, ◌∙◌, get_or}
+use Rattle.std.proofs.Common.{sym, ap, ◌∙◌}
 use Rattle.p11_rk11.specs.State.{status_of}
 use Rattle.p11_rk11.specs.View.{view_of, visible_drive}
 use Rattle.p11_rk11.proofs.Parts.{selected_seen, none_selected}
@@ -8,9 +8,9 @@ pub returns-then-n-lt-DRIVES-clause-value : goal.returns-then-n-lt-DRIVES-clause
 returns-then-n-lt-DRIVES-clause-value g c =
     rw (← c.self.view_is)
     (c.status.ensures.value
-    ∙ ap (λ sector. status_of c.args.turn sector (visible_drive (get_or c.self.inside.drives c.drive-n.result c.index-self-n.result))) c.sector.ensures
+    ∙ ap (λ sector. status_of c.args.turn sector (visible_drive c.at.result.now)) c.sector.ensures
     ∙ ap (λ drive. status_of c.args.turn c.self.inside.registers.disk_address.sector drive)
-    (sym (selected_seen c.self.inside.registers c.self.inside.drives _ _ _ c.drive-n.ensures.value c.if-n-lt-DRIVES.true c.self.invariant.0 refl)))
+    (sym (selected_seen c.self.inside.registers c.self.inside.drives _ _ _ c.drive-n.ensures.value c.if-n-lt-DRIVES.true c.self.invariant.0 c.at.ensures)))
 
 pub returns-else-n-lt-DRIVES-clause-value : goal.returns-else-n-lt-DRIVES-clause-value
 unfolding status_of

@@ -6,11 +6,12 @@ use Rattle.p11_rk11.proofs.controller.Rk11.unmount.Goals as goal
 
 pub returns-clause-state : goal.returns-clause-state
 unfolding disk_after_unmount
-returns-clause-state g c = rw (← c.self.view_is) (drive_changed _ _ c.args.n None c.requires.exists)
+returns-clause-state g c = rw (← c.self.view_is, c.put.ensures) (drive_changed _ _ c.args.n None c.requires.exists)
 
 pub returns-clause-prepared : goal.returns-clause-prepared
-returns-clause-prepared g c = rw (← c.self.view_is) (prepared_changed _ c.args.n None)
+returns-clause-prepared g c = rw (← c.self.view_is, c.put.ensures) (prepared_changed _ c.args.n None)
 
 pub invariant_of-self : goal.invariant_of-self
 invariant_of-self g c =
-    kept_unmounted c.args.self.now c.self.inside.registers c.self.inside.drives c.args.n c.self.view_is c.requires.exists c.requires.idle c.self.invariant
+    rw c.put.ensures
+    (kept_unmounted c.args.self.now c.self.inside.registers c.self.inside.drives c.args.n c.self.view_is c.requires.exists c.requires.idle c.self.invariant)
