@@ -1,6 +1,7 @@
--- What the operator does to the devices between turns, and sees of them. It goes through the bus.
+-- What the operator does to the devices between turns, and sees of them and of memory management.
 use Rattle.std.specs.Prelude.{ℕ, Bool, not, ◌&&◌, is_some, Result}
 use Rattle.p11_psw.specs.declared.priority.Priority.{Priority}
+use Rattle.p11_kt11.specs.Registers.{status_0_word}
 use Rattle.p11_dl11.specs.ReceiverEvents.{receiver_room}
 use Rattle.p11_dl11.specs.declared.line.KeysFull.{KeysFull}
 use Rattle.p11_unibus.specs.declared.devices.BusDevices.{BusDevices}
@@ -50,3 +51,10 @@ set_switches_of word s = record s { bus = bus_after_switches word s.bus }
 -- what is shown of the devices
 unfoldable pub machine_devices_of : State → BusDevices
 machine_devices_of s = devices_of s.turns s.bus
+
+-- what SR0 and SR2 of memory management show
+unfoldable pub status_0_of : State → ℕ
+status_0_of s = status_0_word s.management.status
+
+unfoldable pub status_2_of : State → ℕ
+status_2_of s = s.management.instruction

@@ -1,6 +1,7 @@
 -- What the operator does to a machine between turns, and a new machine.
 use Rattle.std.specs.Prelude.{ℕ, replicate, false, Bool, Option, Some, None, ◌==◌, if◌then◌else◌}
 use Rattle.p11_decode.specs.declared.operand.Register.TheVariants as registers
+use Rattle.p11_kt11.specs.Management.{new_management}
 use Rattle.p11_psw.specs.declared.mode.Mode.TheVariants.{Kernel}
 use Rattle.p11_psw.specs.Status.{new_status, status_of}
 use Rattle.p11_cpu.specs.declared.registers.ConsoleRegister.{ConsoleRegister}
@@ -23,7 +24,7 @@ new_machine kwords =
             waiting = false;
             halted = false;
           };
-      management = record {};
+      management = new_management;
       bus = new_bus kwords;
     }
 

@@ -9,6 +9,7 @@ mod double_operand;
 mod hardware;
 mod instructions;
 mod machine;
+mod management;
 mod operand;
 mod processor_control;
 mod program_control;
