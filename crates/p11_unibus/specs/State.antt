@@ -1,5 +1,5 @@
 -- What stands on the Unibus, and what contracts see of it.
-use Rattle.std.specs.Prelude.{ℕ, ◌*◌, List, [], replicate}
+use Rattle.std.specs.Prelude.{ℕ, ◌*◌, ◌<◌, ◌≤◌, List, [], length, replicate, All}
 use Rattle.p11_kw11.specs.LineClock.{LineClock, new_clock}
 use Rattle.p11_dl11.specs.LineState.{LineState}
 use Rattle.p11_dl11.specs.LineEvents.{new_line}
@@ -35,3 +35,8 @@ new_bus kwords =
 -- the first bus address of the I/O page, where memory ends at the latest
 abbrev pub io_page : ℕ
 io_page = 0o760000
+
+-- what every memory is: words of 16 bits, which end before the I/O page
+pub record IsMemory (memory : Words) : Type 0 where
+  pub words : All (λ word. word < 0o200000) memory
+  pub end : 2 * length memory ≤ io_page
