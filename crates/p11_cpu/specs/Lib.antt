@@ -11,6 +11,7 @@ pub mod DoubleOperand
 pub mod RegisterOperand
 pub mod ProgramControl
 pub mod ProcessorControl
+pub mod Spaces
 pub mod Instructions
 pub mod Services
 pub mod Turns

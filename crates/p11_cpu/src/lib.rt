@@ -11,6 +11,7 @@ mod instructions;
 mod machine;
 mod management;
 mod operand;
+mod part;
 mod processor_control;
 mod program_control;
 mod references;
@@ -18,6 +19,7 @@ mod register_operand;
 mod registers;
 mod service;
 mod single_operand;
+mod spaces;
 #[cfg(test)]
 mod tests;
 mod trap;

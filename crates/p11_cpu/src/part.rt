@@ -1,0 +1,41 @@
+ghost use Rattle.std.specs.Prelude.{◌≡◌, ◌==◌};
+ghost use Rattle.p11_cpu.specs.References.{part_at, status_address};
+
+use p11_kt11::Kt11;
+
+/// The bus address of the processor status word.
+const STATUS_ADDRESS: u32 = 0o777776;
+
+/// What answers at a bus address.
+#[derive(Clone, Copy, Debug, PartialEq, Eq)]
+pub(crate) enum Part {
+    /// The processor: its status word.
+    Status,
+    /// A register of memory management.
+    Management,
+    /// What is on the bus, if anything is there.
+    Bus,
+}
+
+/// Whether the processor status word stands at a bus address.
+fn is_status(address: u32) -> bool
+    ensures { result ≡ (address == status_address) }
+{
+    address == STATUS_ADDRESS
+}
+
+impl Part {
+    /// The one that answers at a bus address.
+    #[tactic(auto, unfolding(crate::specs::References::part_at))]
+    pub fn at(address: u32) -> Part
+        ensures { result ≡ part_at address }
+    {
+        if is_status(address) {
+            Part::Status
+        } else if Kt11::answers(address) {
+            Part::Management
+        } else {
+            Part::Bus
+        }
+    }
+}

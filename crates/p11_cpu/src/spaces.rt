@@ -1,0 +1,69 @@
+ghost use Rattle.std.specs.Prelude.{◌≡◌};
+ghost use Rattle.p11_cpu.specs.Instructions.{execute_of};
+ghost use Rattle.p11_cpu.specs.Spaces.{read_previous_of, write_previous_of};
+
+use crate::hardware::Hardware;
+use crate::operand::Place;
+use crate::trap::Trap;
+use crate::turn_number::TurnNumber;
+use p11_alu::{Size as Width, logic};
+use p11_decode::{Op, Operand, Register, Size};
+use std::alloc::Allocator;
+
+impl<A: Allocator> Hardware<A> {
+    /// The word at a place in the previous mode.
+    #[tactic(auto, unfolding(crate::specs::Spaces::read_previous_of))]
+    fn read_previous(&mut self, turn: TurnNumber, place: Place) -> Result<u16, Trap>
+        ensures { read_previous_of place turn self.old ≡ (self.new, result) }
+    {
+        match place {
+            Place::Register(register) => Ok(self.previous_register(register)),
+            Place::Memory(address) => {
+                let mode = self.status().previous;
+                self.read_in(turn, mode, Size::Word, address)
+            }
+        }
+    }
+
+    /// Writes the word at a place in the previous mode.
+    #[tactic(auto, unfolding(crate::specs::Spaces::write_previous_of))]
+    fn write_previous(&mut self, turn: TurnNumber, place: Place, word: u16) -> Result<(), Trap>
+        ensures { write_previous_of place word turn self.old ≡ (self.new, result) }
+    {
+        match place {
+            Place::Register(register) => {
+                self.set_previous_register(register, word);
+                Ok(())
+            }
+            Place::Memory(address) => {
+                let mode = self.status().previous;
+                self.write_in(turn, mode, Size::Word, address, word)
+            }
+        }
+    }
+
+    /// MFPI.
+    #[tactic(auto, unfolding(crate::specs::Instructions::moves_of))]
+    pub fn mfpi(&mut self, turn: TurnNumber, operand: Operand) -> Result<(), Trap>
+        ensures { execute_of (Op.Mfpi operand) turn self.old ≡ (self.new, result) }
+    {
+        let place = self.find_place(turn, Size::Word, operand)?;
+        let word = self.read_previous(turn, place)?;
+        let top = self.step_down(turn, Register::Sp, 2)?;
+        self.set_codes(logic(Width::Word, word, self.codes().c));
+        self.write_place(turn, Size::Word, Place::Memory(top), word)?;
+        Ok(())
+    }
+
+    /// MTPI.
+    #[tactic(auto, unfolding(crate::specs::Instructions::moves_of))]
+    pub fn mtpi(&mut self, turn: TurnNumber, operand: Operand) -> Result<(), Trap>
+        ensures { execute_of (Op.Mtpi operand) turn self.old ≡ (self.new, result) }
+    {
+        let word = self.pop(turn)?;
+        let place = self.find_place(turn, Size::Word, operand)?;
+        self.set_codes(logic(Width::Word, word, self.codes().c));
+        self.write_previous(turn, place, word)?;
+        Ok(())
+    }
+}
