@@ -13,7 +13,7 @@ type Entry = (
     (&'static str, &'static str),
 );
 
-static ENTRIES: [Entry; 14] = [
+static ENTRIES: [Entry; 11] = [
     ("a reserved word", "10", "7", ("001002", "000005")),
     ("BPT", "14", "3", ("001002", "000005")),
     ("IOT", "20", "4", ("001002", "000005")),
@@ -25,9 +25,6 @@ static ENTRIES: [Entry; 14] = [
     ("a bus time-out", "4", "5737 160000", ("001004", "000005")),
     ("a jump to a register", "4", "100", ("001002", "000005")),
     ("a call of a register", "4", "4500", ("001002", "000005")),
-    ("MFPI", "10", "6500", ("001002", "000005")),
-    ("MTPI", "10", "6600", ("001002", "000005")),
-    ("MFPI of memory", "10", "6537 2000", ("001002", "000005")),
 ];
 
 /// Words of no instruction.
