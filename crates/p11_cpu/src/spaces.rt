@@ -47,8 +47,8 @@ impl<A: Allocator> Hardware<A> {
     pub fn mfpi(&mut self, turn: TurnNumber, operand: Operand) -> Result<(), Trap>
         ensures { execute_of (Op.Mfpi operand) turn self.old ≡ (self.new, result) }
     {
-        let place = self.find_place(turn, Size::Word, operand)?;
-        let word = self.read_previous(turn, place)?;
+        let source = self.find_place(turn, Size::Word, operand)?;
+        let word = self.read_previous(turn, source)?;
         let top = self.step_down(turn, Register::Sp, 2)?;
         self.set_codes(logic(Width::Word, word, self.codes().c));
         self.write_place(turn, Size::Word, Place::Memory(top), word)?;
@@ -61,9 +61,9 @@ impl<A: Allocator> Hardware<A> {
         ensures { execute_of (Op.Mtpi operand) turn self.old ≡ (self.new, result) }
     {
         let word = self.pop(turn)?;
-        let place = self.find_place(turn, Size::Word, operand)?;
+        let destination = self.find_place(turn, Size::Word, operand)?;
         self.set_codes(logic(Width::Word, word, self.codes().c));
-        self.write_previous(turn, place, word)?;
+        self.write_previous(turn, destination, word)?;
         Ok(())
     }
 }
