@@ -1,4 +1,5 @@
 // What the program answers to command lines, and what its sessions write for whole scripts.
+mod aborts;
 mod addressing;
 mod branches;
 mod command_line;
@@ -6,8 +7,14 @@ mod devices;
 mod faults;
 mod instructions;
 mod jumps;
+mod management;
+mod mapped;
+mod page_tables;
+mod pages;
 mod register_operands;
+mod service_aborts;
 mod sessions;
+mod spaces;
 mod stack;
 mod status;
 mod trace;

@@ -1,5 +1,5 @@
 // Each addressing mode with R0, SP and PC, in words and in bytes, and the order in which operands are taken.
-use crate::tests::sessions::{Session, compare, compare_all};
+use crate::tests::sessions::{Session, compare, compare_all, next};
 use std::alloc::Global;
 use std::process::Abort;
 use std::str::SplitWhitespace;
@@ -314,11 +314,6 @@ static ORDER: [Session; 17] = [
          TURN 1 ready\n",
     ),
 ];
-
-/// The next column of a row.
-fn next<'a>(columns: &mut SplitWhitespace<'a>) -> Result<&'a str, Fail> {
-    Ok(columns.next().ok_or("a row is too short")?)
-}
 
 /// The script of a row up to its step, over these pointers, with the operand's name.
 fn script_of<'a>(

@@ -2,6 +2,7 @@
 use p11_panel::{Config, NoMemory, Panel, session};
 use std::alloc::Global;
 use std::process::Abort;
+use std::str::SplitWhitespace;
 use std::test::Fail;
 
 /// A name, a script, and the answers that it has on a new machine.
@@ -48,4 +49,9 @@ pub(crate) fn compare_all(
         compare(rt, alloc, name, script, expected)?;
     }
     Ok(())
+}
+
+/// The next column of a row.
+pub(crate) fn next<'a>(columns: &mut SplitWhitespace<'a>) -> Result<&'a str, Fail> {
+    Ok(columns.next().ok_or("a row is too short")?)
 }
