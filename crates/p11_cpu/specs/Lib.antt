@@ -17,3 +17,4 @@ pub mod Services
 pub mod Turns
 pub mod Operator
 pub mod Console
+pub mod WellFormed

@@ -1,5 +1,5 @@
 -- The state of memory management, as programs and the operator see it.
-use Rattle.std.specs.Prelude.{ℕ, List, false, replicate, slice_index_or, slice_set, if◌then◌else◌}
+use Rattle.std.specs.Prelude.{◌≡◌, ℕ, ◌<◌, List, length, false, replicate, slice_index_or, slice_set, if◌then◌else◌}
 use Rattle.p11_psw.specs.declared.mode.Mode.TheVariants.{Kernel}
 use Rattle.p11_kt11.specs.declared.page.Page.{Page}
 use Rattle.p11_kt11.specs.declared.status.Status.{Status}
@@ -16,6 +16,12 @@ pub record Management : Type 0 where
   pub status : Status
   -- SR2, the virtual PC at the start of the instruction
   pub instruction : ℕ
+
+-- what every unit keeps: eight pages in each space, and SR2 a word
+pub record IsManagement (s : Management) : Type 0 where
+  pub kernel : length s.kernel ≡ 8
+  pub user : length s.user ≡ 8
+  pub instruction : s.instruction < 0o200000
 
 -- What contracts see of the unit. What a body keeps beside the registers, to find its answers sooner, stands beside
 -- `visible`, and no clause on `visible` speaks of it.

@@ -1,0 +1,19 @@
+-- What holds of the state of every machine: each word has 16 bits, and each part has its size.
+use Rattle.std.specs.Prelude.{◌≡◌, ◌<◌, All, length}
+use Rattle.p11_kt11.specs.Management.{IsManagement}
+use Rattle.p11_unibus.specs.State.{IsMemory}
+use Rattle.p11_cpu.specs.declared.registers.Registers.{Registers}
+use Rattle.p11_cpu.specs.State.{State}
+
+-- six general registers, and every register a word
+pub record IsRegisters (file : Registers) : Type 0 where
+  pub count : length file.general ≡ 6
+  pub words : All (λ word. word < 0o200000) file.general
+  pub kernel_sp : file.kernel_sp < 0o200000
+  pub user_sp : file.user_sp < 0o200000
+  pub pc : file.pc < 0o200000
+
+pub record IsWellFormed (s : State) : Type 0 where
+  pub registers : IsRegisters s.processor.registers
+  pub management : IsManagement s.management
+  pub memory : IsMemory s.bus.memory
