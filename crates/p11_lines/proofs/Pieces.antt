@@ -1,14 +1,15 @@
 -- What has been written so far, and what is left.
-use Rattle.std.proofs.Common.{◌≡◌, ◌≤◌, ◌-◌, ◌+◌, ◌*◌, ◌%◌, ◌<◌, get_or, add-one, drop-cons, arith, ℕ, List, [], ◌++◌, length, take, drop, Option, Some, None, refl, sym, ap, subst, ◌∙◌, append_assoc, append-nil, take-append-drop, codes, ◌∷◌}
+use Rattle.std.proofs.Common.{rules, ◌≡◌, ◌≤◌, ◌-◌, ◌+◌, ◌*◌, ◌%◌, ◌<◌, get_or, add-one, drop-cons, arith, ℕ, List, [], ◌++◌, length, take, drop, Option, Some, None, refl, sym, ap, subst, ◌∙◌, append_assoc, append-nil, take-append-drop, codes, ◌∷◌}
 use Rattle.std.proofs.lemmas.List.{nil_from_length, take_all, drop_all, length-drop, length-append}
 use Rattle.std.specs.Io.KnownBytes.{Appends, Keeps}
 use Rattle.std.proofs.KnownBytes.{Appends-nil, Appends-trans}
 use Rattle.std.specs.List.{flat_map}
 use Rattle.std.specs.Prelude.{Result, Ok, Err, OnOk, OnErr, false}
-use Rattle.std.specs.Result.{is_ok}
+use Rattle.std.specs.Result.{is_ok, IsErr}
 use Rattle.p11_lines.specs.AnswerText.{six_octals, exam_text, exam_texts, typed_text}
 use Rattle.p11_lines.specs.Escapes.{escaped}
-use Rattle.p11_lines.specs.Written.{Wrote, AppendsFront}
+use Rattle.p11_lines.specs.Written.{Wrote, AppendsFront, Puts}
+use Rattle.p11_lines.specs.declared.output.Broken.{Broken}
 
 pub Wrote-none : (a : Option (List ℕ)) (text : List ℕ) → Wrote a a text text
 Wrote-none a text = record { front = []; written = Appends-nil a; split = refl }
@@ -209,3 +210,33 @@ pub Wrote-untyped : (a : Option (List ℕ)) (kept typed : List ℕ) → length t
 Wrote-untyped a kept typed none =
     let nothing : kept ++ typed_text typed ≡ kept = ap (λ (t : List ℕ). kept ++ t) (typed_text-none typed none) ∙ append-nil kept in
     subst (λ (t : List ℕ). Wrote a a t kept) (sym nothing) (Wrote-none a kept)
+
+-- a text, and one behind it
+pub puts_then : (a b c : Option (List ℕ)) (kept text next now_kept then_kept : List ℕ) (r : Result (Unit {0}) Broken)
+    → Puts a kept text b now_kept (Ok tt) → Puts b now_kept next c then_kept r → Puts a kept (text ++ next) c then_kept r
+puts_then a b c kept text next now_kept then_kept r first second = record {
+  done = OnOk-map r (Wrote-then a b c kept text next now_kept then_kept first.done) second.done;
+  broken = OnErr-map r (AppendsFront-then a b c kept text next now_kept first.done) second.broken;
+}
+
+-- a front of the text
+pub puts_broken : (a b : Option (List ℕ)) (kept text now_kept : List ℕ) (r : Result (Unit {0}) Broken)
+    → IsErr r → AppendsFront a b (kept ++ text) → Puts a kept text b now_kept r
+puts_broken a b kept text now_kept (Ok v) err front = absurd (search rules)
+puts_broken a b kept text now_kept (Err e) err front = record { done = tt; broken = front }
+
+-- a front of the text, and none of the one behind it
+pub puts_front : (a b : Option (List ℕ)) (kept text next now_kept : List ℕ) (e : Broken)
+    → Puts a kept text b now_kept (Err e) → Puts a kept (text ++ next) b now_kept (Err e)
+puts_front a b kept text next now_kept e first =
+    record { done = tt; broken = AppendsFront-first a b kept text next first.broken }
+
+-- a failure that is handed on
+pub puts_failed : (a b : Option (List ℕ)) (kept text now_kept : List ℕ) (e : Broken) (r : Result (Unit {0}) Broken)
+    → IsErr r → Puts a kept text b now_kept (Err e) → Puts a kept text b now_kept r
+puts_failed a b kept text now_kept e r err first = puts_broken a b kept text now_kept r err first.broken
+
+-- the whole text
+pub puts_done : (a b : Option (List ℕ)) (kept text now_kept : List ℕ) (v : Unit {0})
+    → Wrote a b (kept ++ text) now_kept → Puts a kept text b now_kept (Ok v)
+puts_done a b kept text now_kept v wrote = record { done = wrote; broken = tt }

@@ -6,6 +6,7 @@ use Rattle.p11_lines.specs.declared.answer.Answer.{Answer}
 use Rattle.p11_lines.specs.declared.answer.Answer.TheVariants as answer
 use Rattle.p11_lines.specs.declared.answer.Devices.{Devices}
 use Rattle.p11_lines.specs.declared.answer.LineRegisters.{LineRegisters}
+use Rattle.p11_lines.specs.declared.answer.ManagementRegisters.{ManagementRegisters}
 use Rattle.p11_lines.specs.declared.answer.Mark.{Mark}
 use Rattle.p11_lines.specs.declared.answer.Mark.TheVariants.{Ready, Waiting, Halted}
 use Rattle.p11_lines.specs.declared.answer.Registers.{Registers}
@@ -94,6 +95,10 @@ line_waits_text l =
     codes " keys " ++ decimal l.keys ++ codes " rx " ++ due_text l.receiver_due
     ++ codes " tx " ++ due_text l.transmitter_due ++ codes "\n"
 
+-- `MMU o o`: SR0 and SR2, the status registers of memory management
+unfoldable pub management_text : ManagementRegisters → List ℕ
+management_text m = codes "MMU " ++ six_octals m.status_0 ++ codes " " ++ six_octals m.status_2 ++ codes "\n"
+
 abbrev pub request_text : Bool → List ℕ
 request_text false = codes "0"
 request_text true = codes "1"
@@ -105,7 +110,9 @@ requests_text r =
     ++ codes " " ++ request_text r.receiver ++ codes " " ++ request_text r.transmitter ++ codes "\n"
 
 abbrev pub devices_text : Devices → List ℕ
-devices_text d = clock_text d.clock ++ (line_words_text d.line ++ line_waits_text d.line) ++ requests_text d.requests
+devices_text d =
+    clock_text d.clock ++ (line_words_text d.line ++ line_waits_text d.line) ++ management_text d.management
+    ++ requests_text d.requests
 
 -- `? d name`: the number and the name of the fault
 abbrev pub fault_text : Fault → List ℕ

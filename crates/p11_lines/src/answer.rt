@@ -59,6 +59,15 @@ pub struct LineRegisters {
     pub transmitter_due: Option<u64>,
 }
 
+/// The status registers of memory management.
+#[derive(Clone, Copy, Debug, PartialEq, Eq)]
+pub struct ManagementRegisters {
+    /// SR0: whether addresses are mapped, and what an abort kept of itself.
+    pub status_0: u16,
+    /// SR2: the address of the instruction.
+    pub status_2: u16,
+}
+
 /// Which devices request an interrupt.
 #[derive(Clone, Copy, Debug, PartialEq, Eq)]
 pub struct Requests {
@@ -75,6 +84,8 @@ pub struct Devices {
     pub clock: u16,
     /// The console line.
     pub line: LineRegisters,
+    /// Memory management.
+    pub management: ManagementRegisters,
     /// The requests.
     pub requests: Requests,
 }

@@ -1,9 +1,10 @@
 // The lines of the devices.
 ghost use Rattle.std.specs.Prelude.{◌≡◌, ◌++◌, OnOk, OnErr};
-ghost use Rattle.p11_lines.specs.AnswerText.{clock_text, due_text, line_words_text, line_waits_text, request_text, requests_text, devices_text};
-ghost use Rattle.p11_lines.specs.Written.{Wrote, AppendsFront};
+ghost use Rattle.p11_lines.specs.AnswerText.{clock_text, due_text, line_words_text, line_waits_text, management_text};
+ghost use Rattle.p11_lines.specs.AnswerText.{request_text, requests_text, devices_text};
+ghost use Rattle.p11_lines.specs.Written.{Puts};
 
-use crate::answer::{Devices, LineRegisters, Requests};
+use crate::answer::{Devices, LineRegisters, ManagementRegisters, Requests};
 use crate::output::{Broken, Table, octal, put_all};
 use arrayvec::ArrayVec;
 use itoa::Buffer;
@@ -11,10 +12,8 @@ use std::io::Write;
 
 #[tactic(auto, unfolding(crate::specs::AnswerText::clock_text))]
 fn put_clock<W: Write>(writer: &mut W, table: &mut Table, word: u16) -> Result<(), Broken>
-    ensures ok { OnOk result (Wrote (W.contents writer.old) (W.contents writer.new)
-        (table.old.items ++ clock_text word) table.new.items) }
-    ensures err { OnErr result (AppendsFront (W.contents writer.old) (W.contents writer.new)
-        (table.old.items ++ clock_text word)) }
+    ensures { Puts (W.contents writer.old) table.old.items (clock_text word)
+        (W.contents writer.new) table.new.items result }
 {
     put_all(writer, table, &[b"KW11 ", &octal(u32::from(word)), b"\n"])
 }
@@ -39,10 +38,8 @@ fn put_line_words<W: Write>(
     table: &mut Table,
     line: &LineRegisters,
 ) -> Result<(), Broken>
-    ensures ok { OnOk result (Wrote (W.contents writer.old) (W.contents writer.new)
-        (table.old.items ++ line_words_text line.now) table.new.items) }
-    ensures err { OnErr result (AppendsFront (W.contents writer.old) (W.contents writer.new)
-        (table.old.items ++ line_words_text line.now)) }
+    ensures { Puts (W.contents writer.old) table.old.items (line_words_text line.now)
+        (W.contents writer.new) table.new.items result }
 {
     let receiver = octal(u32::from(line.receiver_status));
     let character = octal(u32::from(line.receiver_buffer));
@@ -60,10 +57,8 @@ fn put_line_waits<W: Write>(
     table: &mut Table,
     line: &LineRegisters,
 ) -> Result<(), Broken>
-    ensures ok { OnOk result (Wrote (W.contents writer.old) (W.contents writer.new)
-        (table.old.items ++ line_waits_text line.now) table.new.items) }
-    ensures err { OnErr result (AppendsFront (W.contents writer.old) (W.contents writer.new)
-        (table.old.items ++ line_waits_text line.now)) }
+    ensures { Puts (W.contents writer.old) table.old.items (line_waits_text line.now)
+        (W.contents writer.new) table.new.items result }
 {
     let mut buffer = Buffer::new();
     let keys = buffer.format(line.keys).as_bytes();
@@ -85,13 +80,25 @@ fn put_line_waits<W: Write>(
 }
 
 fn put_line<W: Write>(writer: &mut W, table: &mut Table, line: &LineRegisters) -> Result<(), Broken>
-    ensures ok { OnOk result (Wrote (W.contents writer.old) (W.contents writer.new)
-        (table.old.items ++ (line_words_text line.now ++ line_waits_text line.now)) table.new.items) }
-    ensures err { OnErr result (AppendsFront (W.contents writer.old) (W.contents writer.new)
-        (table.old.items ++ (line_words_text line.now ++ line_waits_text line.now))) }
+    ensures { Puts (W.contents writer.old) table.old.items (line_words_text line.now ++ line_waits_text line.now)
+        (W.contents writer.new) table.new.items result }
 {
     put_line_words(writer, table, line)?;
     put_line_waits(writer, table, line)
+}
+
+#[tactic(auto, unfolding(crate::specs::AnswerText::management_text))]
+fn put_management<W: Write>(
+    writer: &mut W,
+    table: &mut Table,
+    management: &ManagementRegisters,
+) -> Result<(), Broken>
+    ensures { Puts (W.contents writer.old) table.old.items (management_text management.now)
+        (W.contents writer.new) table.new.items result }
+{
+    let status_0 = octal(u32::from(management.status_0));
+    let status_2 = octal(u32::from(management.status_2));
+    put_all(writer, table, &[b"MMU ", &status_0, b" ", &status_2, b"\n"])
 }
 
 /// The word for whether an interrupt is requested.
@@ -107,10 +114,8 @@ fn put_requests<W: Write>(
     table: &mut Table,
     requests: &Requests,
 ) -> Result<(), Broken>
-    ensures ok { OnOk result (Wrote (W.contents writer.old) (W.contents writer.new)
-        (table.old.items ++ requests_text requests.now) table.new.items) }
-    ensures err { OnErr result (AppendsFront (W.contents writer.old) (W.contents writer.new)
-        (table.old.items ++ requests_text requests.now)) }
+    ensures { Puts (W.contents writer.old) table.old.items (requests_text requests.now)
+        (W.contents writer.new) table.new.items result }
 {
     put_all(
         writer,
@@ -134,12 +139,11 @@ pub(crate) fn put_devices<W: Write>(
     table: &mut Table,
     devices: &Devices,
 ) -> Result<(), Broken>
-    ensures ok { OnOk result (Wrote (W.contents writer.old) (W.contents writer.new)
-        (table.old.items ++ devices_text devices.now) table.new.items) }
-    ensures err { OnErr result (AppendsFront (W.contents writer.old) (W.contents writer.new)
-        (table.old.items ++ devices_text devices.now)) }
+    ensures { Puts (W.contents writer.old) table.old.items (devices_text devices.now)
+        (W.contents writer.new) table.new.items result }
 {
     put_clock(writer, table, devices.clock)?;
     put_line(writer, table, &devices.line)?;
+    put_management(writer, table, &devices.management)?;
     put_requests(writer, table, &devices.requests)
 }

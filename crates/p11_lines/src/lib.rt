@@ -14,7 +14,9 @@ mod run;
 mod text;
 mod words;
 
-pub use answer::{Answer, Devices, LineRegisters, Mark, Registers, Requests, StopReason};
+pub use answer::{
+    Answer, Devices, LineRegisters, ManagementRegisters, Mark, Registers, Requests, StopReason,
+};
 pub use bytes::Bytes;
 pub use fault::{Fault, NoMemory};
 pub use line::Line;

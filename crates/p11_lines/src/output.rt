@@ -5,7 +5,7 @@ ghost use Rattle.std.specs.Io.KnownBytes.{Appends};
 ghost use Rattle.p11_lines.specs.AnswerText.{text_of, six_octals, exam_text, exam_texts};
 ghost use Rattle.p11_lines.specs.AnswerText.{mark_text, spaced_text, general_text, pointers_text, turn_text};
 ghost use Rattle.p11_lines.specs.AnswerText.{registers_text, fault_text};
-ghost use Rattle.p11_lines.specs.Written.{Wrote, AppendsFront};
+ghost use Rattle.p11_lines.specs.Written.{Puts, AppendsFront};
 
 use crate::answer::{Answer, Mark, Registers};
 use crate::devices::put_devices;
@@ -55,10 +55,8 @@ fn empty<W: Write>(writer: &mut W, table: &mut Table) -> Result<(), Broken>
 
 /// Keeps a piece, and writes what was kept where there is no room for it.
 pub(crate) fn put<W: Write>(writer: &mut W, table: &mut Table, piece: &[u8]) -> Result<(), Broken>
-    ensures ok { OnOk result (Wrote (W.contents writer.old) (W.contents writer.new)
-        (table.old.items ++ piece.now) table.new.items) }
-    ensures err { OnErr result (AppendsFront (W.contents writer.old) (W.contents writer.new)
-        (table.old.items ++ piece.now)) }
+    ensures { Puts (W.contents writer.old) table.old.items piece.now
+        (W.contents writer.new) table.new.items result }
 {
     if table.try_extend_from_slice(piece).is_ok() {
         return Ok(());
@@ -76,10 +74,8 @@ pub(crate) fn put_all<W: Write>(
     table: &mut Table,
     pieces: &[&[u8]],
 ) -> Result<(), Broken>
-    ensures ok { OnOk result (Wrote (W.contents writer.old) (W.contents writer.new)
-        (table.old.items ++ flat_map (λ piece. piece.now) pieces.now) table.new.items) }
-    ensures err { OnErr result (AppendsFront (W.contents writer.old) (W.contents writer.new)
-        (table.old.items ++ flat_map (λ piece. piece.now) pieces.now)) }
+    ensures { Puts (W.contents writer.old) table.old.items (flat_map (λ piece. piece.now) pieces.now)
+        (W.contents writer.new) table.new.items result }
 {
     for piece in pieces {
         put(writer, table, piece)?;
@@ -109,10 +105,8 @@ fn put_word<W: Write>(
     address: u32,
     word: u16,
 ) -> Result<(), Broken>
-    ensures ok { OnOk result (Wrote (W.contents writer.old) (W.contents writer.new)
-        (table.old.items ++ exam_text address word) table.new.items) }
-    ensures err { OnErr result (AppendsFront (W.contents writer.old) (W.contents writer.new)
-        (table.old.items ++ exam_text address word)) }
+    ensures { Puts (W.contents writer.old) table.old.items (exam_text address word)
+        (W.contents writer.new) table.new.items result }
 {
     put_all(
         writer,
@@ -134,10 +128,8 @@ fn put_words<W: Write>(
     address: u32,
     words: &[u16],
 ) -> Result<(), Broken>
-    ensures ok { OnOk result (Wrote (W.contents writer.old) (W.contents writer.new)
-        (table.old.items ++ exam_texts address words.now) table.new.items) }
-    ensures err { OnErr result (AppendsFront (W.contents writer.old) (W.contents writer.new)
-        (table.old.items ++ exam_texts address words.now)) }
+    ensures { Puts (W.contents writer.old) table.old.items (exam_texts address words.now)
+        (W.contents writer.new) table.new.items result }
 {
     let mut at = address;
     for word in words {
@@ -160,10 +152,8 @@ fn mark_name(mark: Mark) -> &'static str
 
 /// Puts a space and six octal digits for each word.
 fn put_spaced<W: Write>(writer: &mut W, table: &mut Table, words: &[u16]) -> Result<(), Broken>
-    ensures ok { OnOk result (Wrote (W.contents writer.old) (W.contents writer.new)
-        (table.old.items ++ spaced_text words.now) table.new.items) }
-    ensures err { OnErr result (AppendsFront (W.contents writer.old) (W.contents writer.new)
-        (table.old.items ++ spaced_text words.now)) }
+    ensures { Puts (W.contents writer.old) table.old.items (spaced_text words.now)
+        (W.contents writer.new) table.new.items result }
 {
     for word in words {
         put_all(writer, table, &[b" ", &octal(u32::from(*word))])?;
@@ -176,10 +166,8 @@ fn put_general<W: Write>(
     table: &mut Table,
     registers: &Registers,
 ) -> Result<(), Broken>
-    ensures ok { OnOk result (Wrote (W.contents writer.old) (W.contents writer.new)
-        (table.old.items ++ general_text registers.now) table.new.items) }
-    ensures err { OnErr result (AppendsFront (W.contents writer.old) (W.contents writer.new)
-        (table.old.items ++ general_text registers.now)) }
+    ensures { Puts (W.contents writer.old) table.old.items (general_text registers.now)
+        (W.contents writer.new) table.new.items result }
 {
     put(writer, table, b"REGS")?;
     put_spaced(writer, table, &registers.general)?;
@@ -191,10 +179,8 @@ fn put_pointers<W: Write>(
     table: &mut Table,
     registers: &Registers,
 ) -> Result<(), Broken>
-    ensures ok { OnOk result (Wrote (W.contents writer.old) (W.contents writer.new)
-        (table.old.items ++ pointers_text registers.now) table.new.items) }
-    ensures err { OnErr result (AppendsFront (W.contents writer.old) (W.contents writer.new)
-        (table.old.items ++ pointers_text registers.now)) }
+    ensures { Puts (W.contents writer.old) table.old.items (pointers_text registers.now)
+        (W.contents writer.new) table.new.items result }
 {
     let kernel = octal(u32::from(registers.kernel_sp));
     let user = octal(u32::from(registers.user_sp));
@@ -214,10 +200,8 @@ fn put_turns<W: Write>(
     table: &mut Table,
     registers: &Registers,
 ) -> Result<(), Broken>
-    ensures ok { OnOk result (Wrote (W.contents writer.old) (W.contents writer.new)
-        (table.old.items ++ turn_text registers.now) table.new.items) }
-    ensures err { OnErr result (AppendsFront (W.contents writer.old) (W.contents writer.new)
-        (table.old.items ++ turn_text registers.now)) }
+    ensures { Puts (W.contents writer.old) table.old.items (turn_text registers.now)
+        (W.contents writer.new) table.new.items result }
 {
     let mut buffer = Buffer::new();
     let turns = buffer.format(registers.turns).as_bytes();
@@ -239,10 +223,8 @@ fn put_registers<W: Write>(
     table: &mut Table,
     registers: &Registers,
 ) -> Result<(), Broken>
-    ensures ok { OnOk result (Wrote (W.contents writer.old) (W.contents writer.new)
-        (table.old.items ++ registers_text registers.now) table.new.items) }
-    ensures err { OnErr result (AppendsFront (W.contents writer.old) (W.contents writer.new)
-        (table.old.items ++ registers_text registers.now)) }
+    ensures { Puts (W.contents writer.old) table.old.items (registers_text registers.now)
+        (W.contents writer.new) table.new.items result }
 {
     put_general(writer, table, registers)?;
     put_pointers(writer, table, registers)?;
@@ -250,10 +232,8 @@ fn put_registers<W: Write>(
 }
 
 fn put_fault<W: Write>(writer: &mut W, table: &mut Table, fault: Fault) -> Result<(), Broken>
-    ensures ok { OnOk result (Wrote (W.contents writer.old) (W.contents writer.new)
-        (table.old.items ++ fault_text fault) table.new.items) }
-    ensures err { OnErr result (AppendsFront (W.contents writer.old) (W.contents writer.new)
-        (table.old.items ++ fault_text fault)) }
+    ensures { Puts (W.contents writer.old) table.old.items (fault_text fault)
+        (W.contents writer.new) table.new.items result }
 {
     let mut buffer = Buffer::new();
     let number = buffer.format(fault.number()).as_bytes();
@@ -271,10 +251,8 @@ fn put_text<W: Write, A: Allocator>(
     table: &mut Table,
     answer: &Answer<A>,
 ) -> Result<(), Broken>
-    ensures ok { OnOk result (Wrote (W.contents writer.old) (W.contents writer.new)
-        (table.old.items ++ text_of answer.now) table.new.items) }
-    ensures err { OnErr result (AppendsFront (W.contents writer.old) (W.contents writer.new)
-        (table.old.items ++ text_of answer.now)) }
+    ensures { Puts (W.contents writer.old) table.old.items (text_of answer.now)
+        (W.contents writer.new) table.new.items result }
 {
     match answer {
         Answer::Done => put(writer, table, b"OK\n"),

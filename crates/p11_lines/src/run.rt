@@ -2,7 +2,7 @@
 ghost use Rattle.std.specs.Prelude.{◌≡◌, ◌++◌, codes, OnOk, OnErr};
 ghost use Rattle.p11_lines.specs.AnswerText.{stop_text, reason_text, typed_text};
 ghost use Rattle.p11_lines.specs.Escapes.{escaped, escaped_byte};
-ghost use Rattle.p11_lines.specs.Written.{Wrote, AppendsFront};
+ghost use Rattle.p11_lines.specs.Written.{Puts};
 
 use crate::answer::StopReason;
 use crate::escape::{escape, is_plain};
@@ -29,10 +29,8 @@ fn put_stop<W: Write>(
     turns: u32,
     pc: u16,
 ) -> Result<(), Broken>
-    ensures ok { OnOk result (Wrote (W.contents writer.old) (W.contents writer.new)
-        (table.old.items ++ stop_text reason turns pc) table.new.items) }
-    ensures err { OnErr result (AppendsFront (W.contents writer.old) (W.contents writer.new)
-        (table.old.items ++ stop_text reason turns pc)) }
+    ensures { Puts (W.contents writer.old) table.old.items (stop_text reason turns pc)
+        (W.contents writer.new) table.new.items result }
 {
     let mut buffer = Buffer::new();
     let turns = buffer.format(turns).as_bytes();
@@ -55,10 +53,8 @@ fn put_stop<W: Write>(
 /// Puts what shows a byte.
 #[tactic(auto, unfolding(crate::specs::Escapes::escaped_byte))]
 fn put_byte<W: Write>(writer: &mut W, table: &mut Table, byte: u8) -> Result<(), Broken>
-    ensures ok { OnOk result (Wrote (W.contents writer.old) (W.contents writer.new)
-        (table.old.items ++ escaped_byte byte) table.new.items) }
-    ensures err { OnErr result (AppendsFront (W.contents writer.old) (W.contents writer.new)
-        (table.old.items ++ escaped_byte byte)) }
+    ensures { Puts (W.contents writer.old) table.old.items (escaped_byte byte)
+        (W.contents writer.new) table.new.items result }
 {
     if is_plain(byte) {
         put(writer, table, &[byte])
@@ -69,10 +65,8 @@ fn put_byte<W: Write>(writer: &mut W, table: &mut Table, byte: u8) -> Result<(),
 
 /// Puts what shows bytes.
 fn put_escaped<W: Write>(writer: &mut W, table: &mut Table, bytes: &[u8]) -> Result<(), Broken>
-    ensures ok { OnOk result (Wrote (W.contents writer.old) (W.contents writer.new)
-        (table.old.items ++ escaped bytes.now) table.new.items) }
-    ensures err { OnErr result (AppendsFront (W.contents writer.old) (W.contents writer.new)
-        (table.old.items ++ escaped bytes.now)) }
+    ensures { Puts (W.contents writer.old) table.old.items (escaped bytes.now)
+        (W.contents writer.new) table.new.items result }
 {
     for byte in bytes {
         put_byte(writer, table, *byte)?;
@@ -82,10 +76,8 @@ fn put_escaped<W: Write>(writer: &mut W, table: &mut Table, bytes: &[u8]) -> Res
 
 /// Puts what shows bytes, and the end of their line.
 fn put_escaped_line<W: Write>(writer: &mut W, table: &mut Table, bytes: &[u8]) -> Result<(), Broken>
-    ensures ok { OnOk result (Wrote (W.contents writer.old) (W.contents writer.new)
-        (table.old.items ++ (escaped bytes.now ++ codes "\n")) table.new.items) }
-    ensures err { OnErr result (AppendsFront (W.contents writer.old) (W.contents writer.new)
-        (table.old.items ++ (escaped bytes.now ++ codes "\n"))) }
+    ensures { Puts (W.contents writer.old) table.old.items (escaped bytes.now ++ codes "\n")
+        (W.contents writer.new) table.new.items result }
 {
     put_escaped(writer, table, bytes)?;
     put(writer, table, b"\n")
@@ -93,10 +85,8 @@ fn put_escaped_line<W: Write>(writer: &mut W, table: &mut Table, bytes: &[u8]) -
 
 /// Puts the line of the typed bytes, if there are any.
 fn put_typed<W: Write>(writer: &mut W, table: &mut Table, typed: &[u8]) -> Result<(), Broken>
-    ensures ok { OnOk result (Wrote (W.contents writer.old) (W.contents writer.new)
-        (table.old.items ++ typed_text typed.now) table.new.items) }
-    ensures err { OnErr result (AppendsFront (W.contents writer.old) (W.contents writer.new)
-        (table.old.items ++ typed_text typed.now)) }
+    ensures { Puts (W.contents writer.old) table.old.items (typed_text typed.now)
+        (W.contents writer.new) table.new.items result }
 {
     if typed.is_empty() {
         return Ok(());
@@ -114,10 +104,8 @@ pub(crate) fn put_run<W: Write>(
     turns: u32,
     pc: u16,
 ) -> Result<(), Broken>
-    ensures ok { OnOk result (Wrote (W.contents writer.old) (W.contents writer.new)
-        (table.old.items ++ (typed_text typed.now ++ stop_text reason turns pc)) table.new.items) }
-    ensures err { OnErr result (AppendsFront (W.contents writer.old) (W.contents writer.new)
-        (table.old.items ++ (typed_text typed.now ++ stop_text reason turns pc))) }
+    ensures { Puts (W.contents writer.old) table.old.items (typed_text typed.now ++ stop_text reason turns pc)
+        (W.contents writer.new) table.new.items result }
 {
     put_typed(writer, table, typed)?;
     put_stop(writer, table, reason, turns, pc)

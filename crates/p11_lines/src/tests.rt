@@ -1,6 +1,6 @@
 use crate::{
-    Answer, Broken, Bytes, Devices, Fault, Line, LineRegisters, Mark, Registers, Requests,
-    StopReason, Words, line_of, parse_line, put_answer, text_reads_back,
+    Answer, Broken, Bytes, Devices, Fault, Line, LineRegisters, ManagementRegisters, Mark,
+    Registers, Requests, StopReason, Words, line_of, parse_line, put_answer, text_reads_back,
 };
 use linked_list_allocator::LocalHeap;
 use std::alloc::{AllocError, Global};
@@ -333,6 +333,10 @@ fn new_devices() -> Devices {
             receiver_due: None,
             transmitter_due: None,
         },
+        management: ManagementRegisters {
+            status_0: 0,
+            status_2: 0,
+        },
         requests: Requests {
             clock: false,
             disk: false,
@@ -367,6 +371,10 @@ fn each_answer_is_written(rt: HostRuntime) -> Result<(), Fail> {
             keys: 63,
             receiver_due: Some(4_611_686_018_427_387_904),
             transmitter_due: Some(64),
+        },
+        management: ManagementRegisters {
+            status_0: 0o100_017,
+            status_2: 0o1012,
         },
         requests: Requests {
             clock: true,
@@ -409,11 +417,11 @@ fn each_answer_is_written(rt: HostRuntime) -> Result<(), Fail> {
         ),
         (
             Answer::Devices(new_devices()),
-            b"KW11 000200\nDL11 000000 000000 000200 keys 0 rx - tx -\nREQ 0 0 0 0\n",
+            b"KW11 000200\nDL11 000000 000000 000200 keys 0 rx - tx -\nMMU 000000 000000\nREQ 0 0 0 0\n",
         ),
         (
             Answer::Devices(busy),
-            b"KW11 000300\nDL11 000300 000102 000100 keys 63 rx 4611686018427387904 tx 64\nREQ 1 0 1 0\n",
+            b"KW11 000300\nDL11 000300 000102 000100 keys 63 rx 4611686018427387904 tx 64\nMMU 100017 001012\nREQ 1 0 1 0\n",
         ),
         (
             Answer::Registers(registers()),

@@ -1,15 +1,8 @@
-use Rattle.p11_lines.specs.AnswerText.{line_waits_text, line_words_text}
-use Rattle.p11_lines.proofs.Pieces.{Wrote-then, AppendsFront-first, AppendsFront-then, OnErr-always, OnErr-map, OnOk-map}
+use Rattle.p11_lines.proofs.Pieces.{puts_then, puts_front, puts_failed}
 use Rattle.p11_lines.proofs.devices.put_line.Goals as goal
 
-pub returns-in_err-put_line_words-clause-err : goal.returns-in_err-put_line_words-clause-err
-returns-in_err-put_line_words-clause-err g c =
-    OnErr-always c.from_residual.result (AppendsFront-first (g.W.Write.contents c.args.writer.now) (g.W.Write.contents c.put_line_words.new.writer) c.args.table.now.items (line_words_text c.args.line.now) (line_waits_text c.args.line.now) c.in_err-put_line_words.ensures.err)
+pub returns-in_err-put_line_words : goal.returns-in_err-put_line_words
+returns-in_err-put_line_words g c = puts_failed _ _ _ _ _ _ _ c.from_residual.ensures.0 (puts_front _ _ _ _ _ _ _ c.in_err-put_line_words.ensures)
 
-pub returns-clause-ok : goal.returns-clause-ok
-returns-clause-ok g c =
-    OnOk-map c.put_line_waits.result (Wrote-then (g.W.Write.contents c.args.writer.now) (g.W.Write.contents c.put_line_words.new.writer) (g.W.Write.contents c.put_line_waits.new.writer) c.args.table.now.items (line_words_text c.args.line.now) (line_waits_text c.args.line.now) c.put_line_words.new.table.items c.put_line_waits.new.table.items c.in_ok-put_line_words.ensures.ok) c.put_line_waits.ensures.ok
-
-pub returns-clause-err : goal.returns-clause-err
-returns-clause-err g c =
-    OnErr-map c.put_line_waits.result (AppendsFront-then (g.W.Write.contents c.args.writer.now) (g.W.Write.contents c.put_line_words.new.writer) (g.W.Write.contents c.put_line_waits.new.writer) c.args.table.now.items (line_words_text c.args.line.now) (line_waits_text c.args.line.now) c.put_line_words.new.table.items c.in_ok-put_line_words.ensures.ok) c.put_line_waits.ensures.err
+pub returns : goal.returns
+returns g c = puts_then _ _ _ _ _ _ _ _ _ c.in_ok-put_line_words.ensures c.put_line_waits.ensures

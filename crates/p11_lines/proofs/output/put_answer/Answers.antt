@@ -9,5 +9,5 @@ returns-clause-err g c =
     let a = g.W.Write.contents c.args.writer.now in
     let b = g.W.Write.contents c.put_text.new.writer in
     let kept = c.put_text.new.table.items in
-    let so_far : Wrote a b (text_of c.args.answer.now) kept = subst (λ (t : List ℕ). Wrote a b (t ++ text_of c.args.answer.now) kept) c.new-table.ensures c.in_ok-put_text.ensures.ok in
+    let so_far : Wrote a b (text_of c.args.answer.now) kept = subst (λ (t : List ℕ). Wrote a b (t ++ text_of c.args.answer.now) kept) c.new-table.ensures c.in_ok-put_text.ensures.done in
     OnErr-map c.empty.result (AppendsFront-trans a b (g.W.Write.contents c.empty.new.writer) (text_of c.args.answer.now) kept so_far) c.empty.ensures.err

@@ -1,16 +1,16 @@
 use Rattle.std.proofs.Common.{◌++◌, drop}
 use Rattle.p11_lines.specs.Escapes.{escaped, escaped_byte}
-use Rattle.p11_lines.proofs.Pieces.{Wrote-piece, AppendsFront-piece, OnErr-always, flat_map_drop}
+use Rattle.p11_lines.proofs.Pieces.{Wrote-piece, AppendsFront-piece, puts_broken, flat_map_drop}
 use Rattle.p11_lines.proofs.run.put_escaped.Goals as goal
 
-pub returns-in_err-put_byte-clause-err : goal.returns-in_err-put_byte-clause-err
-returns-in_err-put_byte-clause-err g c =
-    OnErr-always c.from_residual.result (AppendsFront-piece (g.W.Write.contents c.args.writer.now) (g.W.Write.contents c.loop-byte.writer) (g.W.Write.contents c.put_byte.new.writer)
+pub returns-in_err-put_byte : goal.returns-in_err-put_byte
+returns-in_err-put_byte g c =
+    puts_broken _ _ _ _ _ _ c.from_residual.ensures.0 (AppendsFront-piece (g.W.Write.contents c.args.writer.now) (g.W.Write.contents c.loop-byte.writer) (g.W.Write.contents c.put_byte.new.writer)
     (c.args.table.now.items ++ escaped c.args.bytes.now) c.loop-byte.table.items (escaped (drop c.loop-byte.byte-index c.args.bytes.now)) _ _
-    c.loop-byte.invariant (flat_map_drop escaped_byte c.args.bytes.now c.loop-byte.byte-index _ c.loop-byte-test.true) c.in_err-put_byte.ensures.err)
+    c.loop-byte.invariant (flat_map_drop escaped_byte c.args.bytes.now c.loop-byte.byte-index _ c.loop-byte-test.true) c.in_err-put_byte.ensures.broken)
 
 pub loop-byte-preserved : goal.loop-byte-preserved
 loop-byte-preserved g c =
     Wrote-piece (g.W.Write.contents c.args.writer.now) (g.W.Write.contents c.loop-byte.writer) (g.W.Write.contents c.put_byte.new.writer)
     (c.args.table.now.items ++ escaped c.args.bytes.now) c.loop-byte.table.items (escaped (drop c.loop-byte.byte-index c.args.bytes.now)) _ _ _
-    c.loop-byte.invariant (flat_map_drop escaped_byte c.args.bytes.now c.loop-byte.byte-index _ c.loop-byte-test.true) c.in_ok-put_byte.ensures.ok
+    c.loop-byte.invariant (flat_map_drop escaped_byte c.args.bytes.now c.loop-byte.byte-index _ c.loop-byte-test.true) c.in_ok-put_byte.ensures.done
