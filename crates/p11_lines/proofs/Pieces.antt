@@ -157,11 +157,6 @@ pub six_octals_low : (address low : ℕ) → low ≡ address % 4294967296 → si
 unfolding six_octals
 six_octals_low address low same = rw same (grind arith)
 
--- where the call fails, this holds
-pub OnErr-always : {T E P : Type 0} (r : Result T E) → P → OnErr r P
-OnErr-always (Ok v) p = tt
-OnErr-always (Err e) p = p
-
 pub exam_text_low : (address low word : ℕ) → low ≡ address % 4294967296 → exam_text low word ≡ exam_text address word
 exam_text_low address low word same = rw (six_octals_low address low same) refl
 
