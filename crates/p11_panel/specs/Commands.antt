@@ -13,7 +13,7 @@ use Rattle.p11_lines.specs.declared.answer.StopReason.{StopReason}
 use Rattle.p11_psw.specs.Status.{status_word}
 use Rattle.p11_cpu.specs.State.{State, Processor}
 use Rattle.p11_cpu.specs.Operator.{examine_of, start_of, console_register, set_reg_of}
-use Rattle.p11_cpu.specs.Console.{room_of, tick_of, set_switches_of, take_typed_of, machine_devices_of}
+use Rattle.p11_cpu.specs.Console.{room_of, tick_of, set_switches_of, take_typed_of, machine_devices_of, status_0_of, status_2_of}
 use Rattle.p11_panel.specs.declared.command.Command.{Command}
 use Rattle.p11_panel.specs.declared.command.Command.TheVariants as commands
 use Rattle.p11_panel.specs.Ranges.{all_answer, reads_at, deposited}
@@ -83,7 +83,7 @@ registers_of s =
       mark = mark_of p;
     }
 
--- DEVICE: the clock, the console line and the requests. No disk is there yet to request.
+-- DEVICE: the clock, the console line, memory management and the requests. No disk is there yet to request.
 unfoldable pub shown_devices : State → Devices
 shown_devices s =
     let d = machine_devices_of s in
@@ -98,6 +98,7 @@ shown_devices s =
             receiver_due = d.receiver_due;
             transmitter_due = d.transmitter_due;
           };
+      management = record { status_0 = status_0_of s; status_2 = status_2_of s };
       requests =
           record {
             clock = d.clock_request;

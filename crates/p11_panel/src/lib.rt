@@ -19,8 +19,8 @@ pub use command::Command;
 pub use config::Config;
 pub use laws::{a_command_has_one_outcome, a_list_has_one_outcome, a_run_has_one_outcome};
 pub use p11_lines::{
-    Answer, Bytes, Devices, Fault, Line, LineRegisters, Mark, NoMemory, Registers, Requests,
-    StopReason, Words, line_of, parse_line,
+    Answer, Bytes, Devices, Fault, Line, LineRegisters, ManagementRegisters, Mark, NoMemory,
+    Registers, Requests, StopReason, Words, line_of, parse_line,
 };
 pub use panel::Panel;
 pub use playing::play;

@@ -9,7 +9,8 @@ use crate::refusal::start_refusal;
 use crate::run::run;
 use p11_cpu::{ConsoleRegister, Machine};
 use p11_lines::{
-    Answer, Bytes, Devices, Fault, LineRegisters, Mark, NoMemory, Registers, Requests, Words,
+    Answer, Bytes, Devices, Fault, LineRegisters, ManagementRegisters, Mark, NoMemory, Registers,
+    Requests, Words,
 };
 use std::alloc::{Allocator, Global};
 use std::marker::Model;
@@ -72,6 +73,10 @@ impl<A: Allocator> Panel<A> {
                 keys: shown.keys,
                 receiver_due: shown.receiver_due,
                 transmitter_due: shown.transmitter_due,
+            },
+            management: ManagementRegisters {
+                status_0: self.machine.status_0(),
+                status_2: self.machine.status_2(),
             },
             requests: Requests {
                 clock: shown.clock_request,
