@@ -1,4 +1,4 @@
-//! The central processor of a PDP-11/40 with its bus, turn by turn.
+//! The central processor of a PDP-11/40 with memory management and its bus, turn by turn.
 //!
 //! In a turn the machine runs one instruction. What it does is defined in `specs/`: `Turns.antt` has the turn,
 //! `Instructions.antt` the list of moves of each instruction.
