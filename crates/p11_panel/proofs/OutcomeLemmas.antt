@@ -1,20 +1,14 @@
 -- One outcome of a command, and of a list of commands.
-use Rattle.std.proofs.Common.{◌≡◌, ◌≢◌, ◌≤◌, ◌<◌, ◌⊎◌, ℕ, Bool, true, false, Option, Some, None, MatchOption, List, [], ◌∷◌, All, refl, sym, ap, subst, ◌∙◌, inl, inr}
+use Rattle.std.proofs.Common.{◌≡◌, ℕ, Bool, true, false, Option, Some, None, MatchOption, [], ◌∷◌, refl, sym, ap, subst, ◌∙◌, inl, inr}
 use Rattle.std.proofs.lemmas.List.Elements.{All-head, All-tail}
 use Rattle.p11_lines.specs.declared.answer.Answer.{Answer}
 use Rattle.p11_lines.specs.declared.answer.Answer.TheVariants as answers
-use Rattle.p11_lines.specs.declared.answer.StopReason.{StopReason}
-use Rattle.p11_lines.specs.declared.answer.StopReason.TheVariants.{Memory}
-use Rattle.p11_lines.specs.declared.fault.Fault.{Fault}
-use Rattle.p11_lines.specs.declared.fault.Fault.TheVariants.{NoMemory}
 use Rattle.p11_cpu.specs.State.{State}
 use Rattle.p11_cpu.specs.Operator.{console_register, start_of, set_reg_of}
 use Rattle.p11_cpu.specs.Console.{tick_of, set_switches_of, take_typed_of}
-use Rattle.p11_cpu.specs.declared.registers.ConsoleRegister.{ConsoleRegister}
-use Rattle.p11_panel.specs.declared.command.Command.{Command}
 use Rattle.p11_panel.specs.declared.command.Command.TheVariants as commands
-use Rattle.p11_panel.specs.Commands.{Acts, IsRefused, IsDone, Examines, Stops, examined, examine_fault, deposit_fault, start_fault, key_fault, step_fault, registers_of, shown_devices}
-use Rattle.p11_panel.specs.Runs.{IsRun, stops_idling}
+use Rattle.p11_panel.specs.Commands.{IsDone, Examines, Stops, examine_fault, deposit_fault, start_fault, key_fault, step_fault, registers_of, shown_devices}
+use Rattle.p11_panel.specs.Runs.{stops_idling}
 use Rattle.p11_panel.specs.Keys.{pressed}
 use Rattle.p11_panel.specs.Ranges.{deposited}
 use Rattle.p11_panel.specs.Play.{Plays}

@@ -1,5 +1,5 @@
 -- One more turn of a run.
-use Rattle.std.proofs.Common.{◌≡◌, ◌≢◌, ℕ, suc, ◌+◌, ◌<◌, Bool, true, false, ◌==◌, Option, Some, None, MatchOption, if◌then◌else◌, Result, Ok, Err, refl, ap, subst, sym, ◌∙◌, arith, inl, inr, add-one}
+use Rattle.std.proofs.Common.{◌≡◌, ℕ, ◌+◌, ◌<◌, Bool, true, false, ◌==◌, Option, Some, None, MatchOption, Result, Ok, Err, refl, ap, subst, sym, ◌∙◌, arith, inl, inr, add-one}
 use Rattle.std.proofs.lemmas.Bool.{cases_lt}
 use Rattle.std.specs.Result.{IsOk, is_err}
 use Rattle.p11_lines.specs.declared.answer.StopReason.{StopReason}

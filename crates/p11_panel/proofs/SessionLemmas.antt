@@ -12,16 +12,15 @@ use Rattle.p11_lines.specs.declared.fault.Fault.TheVariants.{BadLine}
 use Rattle.p11_lines.specs.AnswerText.{text_of}
 use Rattle.p11_lines.specs.Grammar.{line_from}
 use Rattle.p11_lines.specs.Written.{AppendsFront}
-use Rattle.p11_cpu.specs.State.{State}
 use Rattle.p11_panel.specs.Buffer.{kept, pushed}
 use Rattle.p11_panel.specs.Script.{pieces_of, without_cr, ended_lines, script_lines}
-use Rattle.p11_panel.specs.Session.{has_answer, LineDoes, Runs, Did, Broke, texts_of}
+use Rattle.p11_panel.specs.Session.{SessionState, has_answer, LineDoes, Runs, Did, Broke, texts_of}
 use Rattle.p11_panel.specs.Standing.{Stands}
 use Rattle.p11_panel.proofs.BufferLemmas.{kept_nil, kept_push}
 use Rattle.p11_panel.proofs.ScriptLemmas.{lines_at_lf, last_at_lf, lines_at_other, last_at_other, lines_front}
 
 -- a line that is too long
-pub long_line : (A : Type 0) (line : List ℕ) (s : State) → 4096 < length line → LineDoes {A = A} line s (Some (answers.Refused BadLine)) s
+pub long_line : (A : Type 0) (line : List ℕ) (s : SessionState) → 4096 < length line → LineDoes {A = A} line s (Some (answers.Refused BadLine)) s
 unfolding LineDoes has_answer line_from
 long_line A line s lt = rw (lt-ltb _ _ lt, lt-leb _ _ lt) (refl, refl)
 

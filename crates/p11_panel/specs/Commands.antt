@@ -109,7 +109,7 @@ shown_devices s =
     }
 
 -- a refused command answers its fault, and changes nothing
-abbrev pub IsRefused : {A : Type 0} → Fault → State → Answer A → State → Type 0
+abbrev pub IsRefused : {A S : Type 0} → Fault → S → Answer A → S → Type 0
 IsRefused fault s answer s' = (answer ≡ answers.Refused fault) × (s' ≡ s)
 
 -- an answer and a next state that nothing leaves open

@@ -1,5 +1,5 @@
 -- Laws of the definitions: what is one, where memory refused and stopped nothing.
-use Rattle.std.specs.Prelude.{◌≡◌, ◌≢◌, ℕ, Bool, true, false, List, All}
+use Rattle.std.specs.Prelude.{◌≡◌, ◌≢◌, ℕ, Bool, List, All}
 use Rattle.p11_lines.specs.declared.answer.Answer.{Answer}
 use Rattle.p11_lines.specs.declared.answer.Answer.TheVariants as answers
 use Rattle.p11_lines.specs.declared.answer.StopReason.{StopReason}

@@ -7,5 +7,7 @@ pub mod Commands
 pub mod Play
 pub mod Script
 pub mod Buffer
+pub mod Store
+pub mod Files
 pub mod Session
 pub mod Standing

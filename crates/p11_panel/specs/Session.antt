@@ -13,9 +13,18 @@ use Rattle.p11_lines.specs.Grammar.{is_blank, line_from}
 use Rattle.p11_lines.specs.Reading.{holds_list}
 use Rattle.p11_lines.specs.Written.{AppendsFront}
 use Rattle.p11_cpu.specs.State.{State}
+use Rattle.p11_panel.specs.Store.{StoreState}
 use Rattle.p11_panel.specs.declared.command.Command.{Command}
 use Rattle.p11_panel.specs.declared.command.Command.TheVariants as commands
 use Rattle.p11_panel.specs.Commands.{Acts, IsRefused}
+
+-- what a session goes on over: a machine, and a store of files
+pub record SessionState : Type 0 where
+  pub machine : State
+  pub store : StoreState
+
+abbrev pub with_store : State → StoreState → SessionState
+with_store machine store = record { machine = machine; store = store }
 
 -- a blank line, or a remark: its first byte past spaces and tabs is `#`
 unfoldable pub is_silent : List ℕ → Bool
@@ -40,14 +49,18 @@ command_of (lines.Continue turns) = commands.Continue turns
 command_of lines.Regs = commands.Regs
 command_of lines.Device = commands.Device
 
+-- a command leaves the store
+abbrev pub IsCommand : {A : Type 0} → Command A → SessionState → Answer A → SessionState → Type 0
+IsCommand command s answer s' = Acts s.machine command answer s'.machine × (s'.store ≡ s.store)
+
 -- What a line with an answer does, by what the grammar makes of it: the command, or nothing where it is no line. Reading
 -- a line that holds a list may find no memory, before all else.
-abbrev pub Asks : {A : Type 0} → Option (Line A) → State → Answer A → State → Type 0
+abbrev pub Asks : {A : Type 0} → Option (Line A) → SessionState → Answer A → SessionState → Type 0
 Asks None s answer s' = IsRefused BadLine s answer s'
-Asks (Some line) s answer s' = Acts s (command_of line) answer s' ⊎ (IsTrue (holds_list line) × IsRefused NoMemory s answer s')
+Asks (Some line) s answer s' = IsCommand (command_of line) s answer s' ⊎ (IsTrue (holds_list line) × IsRefused NoMemory s answer s')
 
 -- what a line does: its answer, if it has one, and the state after it
-unfoldable pub LineDoes : {A : Type 0} → List ℕ → State → Option (Answer A) → State → Type 0
+unfoldable pub LineDoes : {A : Type 0} → List ℕ → SessionState → Option (Answer A) → SessionState → Type 0
 LineDoes line s answer s' =
     MatchBool (has_answer line) (IsSomeAnd answer (λ a. Asks (line_from line) s a s')) ((answer ≡ None) × (s' ≡ s))
 

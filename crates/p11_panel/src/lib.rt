@@ -1,23 +1,27 @@
 //! The operator's console of a PDP-11/40: commands and their answers, lists of commands, and sessions over scripts.
 #![tactic(auto)]
 
+mod answering;
 mod command;
 mod config;
 mod keys;
 mod laws;
 mod line_buffer;
+mod memory_store;
 mod panel;
 mod playing;
 mod range;
 mod refusal;
 mod run;
 mod script;
+mod store;
 #[cfg(test)]
 mod tests;
 
 pub use command::Command;
 pub use config::Config;
 pub use laws::{a_command_has_one_outcome, a_list_has_one_outcome, a_run_has_one_outcome};
+pub use memory_store::MemoryStore;
 pub use p11_lines::{
     Answer, Bytes, Devices, Fault, Line, LineRegisters, ManagementRegisters, Mark, NoMemory,
     Registers, Requests, StopReason, Words, line_of, parse_line,
@@ -25,3 +29,4 @@ pub use p11_lines::{
 pub use panel::Panel;
 pub use playing::play;
 pub use script::{SessionFault, session};
+pub use store::{Refusals, Store, StoreError};

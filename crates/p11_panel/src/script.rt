@@ -1,17 +1,16 @@
 ghost use Rattle.std.specs.Prelude.{◌≡◌, ◌≤◌, ◌+◌, ◌*◌, ◌++◌, ◌∷◌, [], ◌⊎◌, ℕ, List, Option, Some, length};
 ghost use Rattle.std.specs.Prelude.{IfOk, OnErr, IsErrOf};
 ghost use Rattle.std.specs.Io.KnownBytes.{Consumes, IsAtEnd};
-ghost use Rattle.p11_lines.specs.Grammar.{line_from};
-ghost use Rattle.p11_cpu.specs.State.{State};
 ghost use Rattle.p11_panel.specs.Buffer.{kept};
 ghost use Rattle.p11_panel.specs.Script.{without_cr, ended_lines, script_lines};
-ghost use Rattle.p11_panel.specs.Session.{is_silent, has_answer, command_of, Asks, LineDoes, Did, Broke};
+ghost use Rattle.p11_panel.specs.Session.{SessionState, with_store, LineDoes, Did, Broke};
 ghost use Rattle.p11_panel.specs.Standing.{Stands};
 
-use crate::command::Command;
+use crate::answering::do_line;
 use crate::line_buffer::LineBuffer;
 use crate::panel::Panel;
-use p11_lines::{Answer, Broken, Fault, Line, parse_line, put_answer};
+use crate::store::Store;
+use p11_lines::{Answer, Broken, Fault, put_answer};
 use std::alloc::Allocator;
 use std::io::{Read, Write};
 use thiserror::Error;
@@ -39,65 +38,6 @@ impl From<Broken> for SessionFault {
 
 const MOST_READS: u32 = 1_000_000;
 
-/// The command that a line asks for.
-#[tactic(auto, unfolding(crate::specs::Session::command_of))]
-fn command<A: Allocator>(line: Line<A>) -> Command<A>
-    ensures { result ≡ command_of line }
-{
-    match line {
-        Line::Examine { address, count } => Command::Examine { address, count },
-        Line::Deposit { address, words } => Command::Deposit { address, words },
-        Line::Start { address } => Command::Start { address },
-        Line::Key { text } => Command::Key { text },
-        Line::Tick => Command::Tick,
-        Line::Switches { word } => Command::Switches { word },
-        Line::Set { register, value } => Command::Set { register, value },
-        Line::Step { turns } => Command::Step { turns },
-        Line::Continue { turns } => Command::Continue { turns },
-        Line::Regs => Command::Regs,
-        Line::Device => Command::Device,
-    }
-}
-
-/// Whether a line is blank or a remark.
-#[tactic(auto, unfolding(crate::specs::Session::is_silent))]
-fn silent(line: &[u8]) -> bool
-    ensures { result ≡ is_silent line.now }
-{
-    let mut rest = line;
-    while let [first, after @ ..] = rest {
-        if *first != b' ' && *first != b'\t' {
-            return *first == b'#';
-        }
-        rest = after;
-    }
-    true
-}
-
-/// Does a line that has an answer.
-fn ask<A: Allocator + Copy>(alloc: A, panel: &mut Panel<A>, line: &[u8]) -> Answer<A>
-    ensures { Asks (line_from line.now) panel.old result panel.new }
-{
-    match parse_line(alloc, line) {
-        Ok(line) => panel.act(alloc, &command(line)),
-        Err(fault) => Answer::Refused(fault),
-    }
-}
-
-/// Does a line.
-#[tactic(auto, unfolding(crate::specs::Session::LineDoes, crate::specs::Session::has_answer))]
-fn do_line<A: Allocator + Copy>(alloc: A, panel: &mut Panel<A>, line: &[u8]) -> Option<Answer<A>>
-    ensures { LineDoes line.now panel.old result panel.new }
-{
-    if line.len() > 4096 {
-        return Some(ask(alloc, panel, line));
-    }
-    if silent(line) {
-        return None;
-    }
-    Some(ask(alloc, panel, line))
-}
-
 /// A piece without the CR at its end.
 #[tactic(auto, unfolding(crate::specs::Script::without_cr))]
 fn trimmed(piece: &[u8]) -> &[u8]
@@ -114,57 +54,58 @@ fn trimmed(piece: &[u8]) -> &[u8]
 }
 
 /// Does the line that LF has ended.
-#[tactic(auto, using(crate::proofs::BufferLemmas::kept_is))]
-fn end_line<A: Allocator + Copy>(
+fn end_line<A: Allocator + Copy, S: Store>(
     alloc: A,
     panel: &mut Panel<A>,
+    store: &mut S,
     buffer: &LineBuffer,
 ) -> Option<Answer<A>>
-    ensures { (piece : List ℕ) → buffer.now ≡ kept piece → LineDoes (without_cr piece) panel.old result panel.new }
+    ensures { (piece : List ℕ) → buffer.now ≡ kept piece → LineDoes (without_cr piece) (with_store panel.old (S.state store.old)) result (with_store panel.new (S.state store.new)) }
 {
     match buffer.get() {
         None => Some(Answer::Refused(Fault::BadLine)),
-        Some(piece) => do_line(alloc, panel, trimmed(piece)),
+        Some(piece) => do_line(alloc, panel, store, trimmed(piece)),
     }
 }
 
 /// Does the last line, which no LF ends.
-#[tactic(auto, using(crate::proofs::BufferLemmas::kept_is))]
-fn last_line<A: Allocator + Copy>(
+fn last_line<A: Allocator + Copy, S: Store>(
     alloc: A,
     panel: &mut Panel<A>,
+    store: &mut S,
     buffer: &LineBuffer,
 ) -> Option<Answer<A>>
-    ensures { (piece : List ℕ) → buffer.now ≡ kept piece → LineDoes piece panel.old result panel.new }
+    ensures { (piece : List ℕ) → buffer.now ≡ kept piece → LineDoes piece (with_store panel.old (S.state store.old)) result (with_store panel.new (S.state store.new)) }
 {
     match buffer.get() {
         None => Some(Answer::Refused(Fault::BadLine)),
-        Some(piece) => do_line(alloc, panel, piece),
+        Some(piece) => do_line(alloc, panel, store, piece),
     }
 }
 
 /// Takes the next byte of the script: how many lines were answered.
-fn feed_byte<A: Allocator + Copy, W: Write>(
+fn feed_byte<A: Allocator + Copy, S: Store, W: Write>(
     alloc: A,
     panel: &mut Panel<A>,
+    store: &mut S,
     writer: &mut W,
     buffer: &mut LineBuffer,
     byte: u8,
 ) -> Result<u32, Broken>
-    ensures ok { IfOk result (λ n. (read : List ℕ) (s : State) (start : Option (List ℕ)) (count : ℕ)
-        → Stands (LineDoes {A = A}) read s start panel.old (W.contents writer.old) count buffer.old
+    ensures ok { IfOk result (λ n. (read : List ℕ) (s : SessionState) (start : Option (List ℕ)) (count : ℕ)
+        → Stands (LineDoes {A = A}) read s start (with_store panel.old (S.state store.old)) (W.contents writer.old) count buffer.old
         → Stands (LineDoes {A = A}) (read ++ byte ∷ []) s start
-        panel.new (W.contents writer.new) (count + n) buffer.new) }
-    ensures err { OnErr result ((read : List ℕ) (s : State) (start : Option (List ℕ)) (count : ℕ)
-        → Stands (LineDoes {A = A}) read s start panel.old (W.contents writer.old) count buffer.old
-        → Broke (LineDoes {A = A}) (ended_lines (read ++ byte ∷ [])) s start panel.new (W.contents writer.new)) }
+        (with_store panel.new (S.state store.new)) (W.contents writer.new) (count + n) buffer.new) }
+    ensures err { OnErr result ((read : List ℕ) (s : SessionState) (start : Option (List ℕ)) (count : ℕ)
+        → Stands (LineDoes {A = A}) read s start (with_store panel.old (S.state store.old)) (W.contents writer.old) count buffer.old
+        → Broke (LineDoes {A = A}) (ended_lines (read ++ byte ∷ [])) s start (with_store panel.new (S.state store.new)) (W.contents writer.new)) }
     ensures one { IfOk result (λ n. n ≤ 1) }
 {
     if byte != b'\n' {
         buffer.push(byte);
         return Ok(0);
     }
-    let answer = end_line(alloc, panel, buffer);
+    let answer = end_line(alloc, panel, store, buffer);
     buffer.clear();
     let Some(answer) = answer else {
         return Ok(0);
@@ -174,46 +115,48 @@ fn feed_byte<A: Allocator + Copy, W: Write>(
 }
 
 /// Takes the next bytes of the script: how many lines were answered.
-fn feed<A: Allocator + Copy, W: Write>(
+fn feed<A: Allocator + Copy, S: Store, W: Write>(
     alloc: A,
     panel: &mut Panel<A>,
+    store: &mut S,
     writer: &mut W,
     buffer: &mut LineBuffer,
     bytes: &[u8],
 ) -> Result<u32, Broken>
     requires { length bytes.now ≤ 4096 }
-    ensures ok { IfOk result (λ n. (read : List ℕ) (s : State) (start : Option (List ℕ)) (count : ℕ)
-        → Stands (LineDoes {A = A}) read s start panel.old (W.contents writer.old) count buffer.old
+    ensures ok { IfOk result (λ n. (read : List ℕ) (s : SessionState) (start : Option (List ℕ)) (count : ℕ)
+        → Stands (LineDoes {A = A}) read s start (with_store panel.old (S.state store.old)) (W.contents writer.old) count buffer.old
         → Stands (LineDoes {A = A}) (read ++ bytes.now) s start
-        panel.new (W.contents writer.new) (count + n) buffer.new) }
-    ensures err { OnErr result ((read : List ℕ) (s : State) (start : Option (List ℕ)) (count : ℕ)
-        → Stands (LineDoes {A = A}) read s start panel.old (W.contents writer.old) count buffer.old
-        → Broke (LineDoes {A = A}) (ended_lines (read ++ bytes.now)) s start panel.new (W.contents writer.new)) }
+        (with_store panel.new (S.state store.new)) (W.contents writer.new) (count + n) buffer.new) }
+    ensures err { OnErr result ((read : List ℕ) (s : SessionState) (start : Option (List ℕ)) (count : ℕ)
+        → Stands (LineDoes {A = A}) read s start (with_store panel.old (S.state store.old)) (W.contents writer.old) count buffer.old
+        → Broke (LineDoes {A = A}) (ended_lines (read ++ bytes.now)) s start (with_store panel.new (S.state store.new)) (W.contents writer.new)) }
     ensures few { IfOk result (λ n. n ≤ length bytes.now) }
 {
     let mut answered = 0;
     for byte in bytes {
-        answered += feed_byte(alloc, panel, writer, buffer, *byte)?;
+        answered += feed_byte(alloc, panel, store, writer, buffer, *byte)?;
     }
     Ok(answered)
 }
 
 /// Does the last line of the script: how many lines were answered.
-fn finish<A: Allocator + Copy, W: Write>(
+fn finish<A: Allocator + Copy, S: Store, W: Write>(
     alloc: A,
     panel: &mut Panel<A>,
+    store: &mut S,
     writer: &mut W,
     buffer: &LineBuffer,
 ) -> Result<u32, Broken>
-    ensures ok { IfOk result (λ n. (read : List ℕ) (s : State) (start : Option (List ℕ)) (count : ℕ)
-        → Stands (LineDoes {A = A}) read s start panel.old (W.contents writer.old) count buffer.now
-        → Did (LineDoes {A = A}) (script_lines read) s start panel.new (W.contents writer.new) (count + n)) }
-    ensures err { OnErr result ((read : List ℕ) (s : State) (start : Option (List ℕ)) (count : ℕ)
-        → Stands (LineDoes {A = A}) read s start panel.old (W.contents writer.old) count buffer.now
-        → Broke (LineDoes {A = A}) (script_lines read) s start panel.new (W.contents writer.new)) }
+    ensures ok { IfOk result (λ n. (read : List ℕ) (s : SessionState) (start : Option (List ℕ)) (count : ℕ)
+        → Stands (LineDoes {A = A}) read s start (with_store panel.old (S.state store.old)) (W.contents writer.old) count buffer.now
+        → Did (LineDoes {A = A}) (script_lines read) s start (with_store panel.new (S.state store.new)) (W.contents writer.new) (count + n)) }
+    ensures err { OnErr result ((read : List ℕ) (s : SessionState) (start : Option (List ℕ)) (count : ℕ)
+        → Stands (LineDoes {A = A}) read s start (with_store panel.old (S.state store.old)) (W.contents writer.old) count buffer.now
+        → Broke (LineDoes {A = A}) (script_lines read) s start (with_store panel.new (S.state store.new)) (W.contents writer.new)) }
     ensures one { IfOk result (λ n. n ≤ 1) }
 {
-    let Some(answer) = last_line(alloc, panel, buffer) else {
+    let Some(answer) = last_line(alloc, panel, store, buffer) else {
         return Ok(0);
     };
     put_answer(writer, &answer)?;
@@ -233,9 +176,10 @@ fn finish<A: Allocator + Copy, W: Write>(
 /// that LF ended in what was read are done, and all their text is written. `Writing` where the writer failed or took
 /// nothing: just the lines up to one are done, itself included. All earlier texts are whole, and of its own text a front is
 /// written, but not all. LF has ended that line, or it is the last of a script that was read to its end.
-pub fn session<A: Allocator + Copy, R: Read, W: Write>(
+pub fn session<A: Allocator + Copy, S: Store, R: Read, W: Write>(
     alloc: A,
     panel: &mut Panel<A>,
+    store: &mut S,
     reader: &mut R,
     writer: &mut W,
 ) -> Result<u32, SessionFault>
@@ -243,26 +187,26 @@ pub fn session<A: Allocator + Copy, R: Read, W: Write>(
     ensures ok { IfOk result (λ m. (read : List ℕ) × Consumes (R.remaining reader.old) (R.remaining reader.new) read
         × IsAtEnd (R.remaining reader.new) × (length read ≤ 999999 * 4096)
         × Did (LineDoes {A = A}) (script_lines read)
-        panel.old (W.contents writer.old) panel.new (W.contents writer.new) m) }
+        (with_store panel.old (S.state store.old)) (W.contents writer.old) (with_store panel.new (S.state store.new)) (W.contents writer.new) m) }
     // The lines that LF ended in what was read are done, and their text is written.
     ensures reading { IsErrOf result SessionFault.Reading → (read : List ℕ) × (m : ℕ)
         × Consumes (R.remaining reader.old) (R.remaining reader.new) read
         × Did (LineDoes {A = A}) (ended_lines read)
-        panel.old (W.contents writer.old) panel.new (W.contents writer.new) m }
+        (with_store panel.old (S.state store.old)) (W.contents writer.old) (with_store panel.new (S.state store.new)) (W.contents writer.new) m }
     // The same, of 1,000,000 reads, each of 1 to 4,096 bytes.
     ensures long { IsErrOf result SessionFault.TooLong → (read : List ℕ) × (m : ℕ)
         × Consumes (R.remaining reader.old) (R.remaining reader.new) read
         × (1000000 ≤ length read) × (length read ≤ 1000000 * 4096)
         × Did (LineDoes {A = A}) (ended_lines read)
-        panel.old (W.contents writer.old) panel.new (W.contents writer.new) m }
+        (with_store panel.old (S.state store.old)) (W.contents writer.old) (with_store panel.new (S.state store.new)) (W.contents writer.new) m }
     // Just the lines up to one are done, which LF ended, or which is the last of a script that was read to its end.
     ensures broke { IsErrOf result SessionFault.Writing → (read : List ℕ)
         × Consumes (R.remaining reader.old) (R.remaining reader.new) read
         × (Broke (LineDoes {A = A}) (ended_lines read)
-        panel.old (W.contents writer.old) panel.new (W.contents writer.new)
+        (with_store panel.old (S.state store.old)) (W.contents writer.old) (with_store panel.new (S.state store.new)) (W.contents writer.new)
         ⊎ (IsAtEnd (R.remaining reader.new)
         × Broke (LineDoes {A = A}) (script_lines read)
-        panel.old (W.contents writer.old) panel.new (W.contents writer.new))) }
+        (with_store panel.old (S.state store.old)) (W.contents writer.old) (with_store panel.new (S.state store.new)) (W.contents writer.new))) }
 {
     let mut buffer = LineBuffer::new();
     let mut chunk = [0; 4096];
@@ -272,10 +216,10 @@ pub fn session<A: Allocator + Copy, R: Read, W: Write>(
             return Err(SessionFault::Reading);
         };
         if len == 0 {
-            answered += finish(alloc, panel, writer, &buffer)?;
+            answered += finish(alloc, panel, store, writer, &buffer)?;
             return Ok(answered);
         }
-        answered += feed(alloc, panel, writer, &mut buffer, &chunk[..len])?;
+        answered += feed(alloc, panel, store, writer, &mut buffer, &chunk[..len])?;
     }
     Err(SessionFault::TooLong)
 }

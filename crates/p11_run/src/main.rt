@@ -3,6 +3,8 @@
 //! `p11 [--memory K] [--lines N] SCRIPT` does the lines of the script, and writes their answers to standard output.
 #![tactic(auto)]
 
+ghost use Rattle.std.specs.Prelude.{◌≡◌, ◌<◌};
+
 mod ending;
 mod settings;
 #[cfg(test)]
@@ -10,9 +12,11 @@ mod tests;
 
 use crate::ending::{Cause, ending, ending_after};
 use crate::settings::{Launch, settings};
-use p11_panel::{Panel, SessionFault, session};
+use p11_panel::{MemoryStore, Panel, SessionFault, session};
 use std::fs::File;
+use std::marker::Brand;
 use std::process::ExitCode;
+use std::sync::ledger::{Blank, Ledger};
 use std::{env, io};
 
 fn main(rt: HostRuntime) -> ExitCode {
@@ -61,10 +65,26 @@ fn words(rt: &HostRuntime) -> Result<Vec<String>, Cause> {
 
 /// Makes the machine, opens the script and runs the session.
 fn run_script(rt: &HostRuntime, launch: &Launch<'_>) -> Result<(), Cause> {
+    run_counted::<Brand>(rt, launch, Blank::new(1))
+}
+
+/// The same, with a store whose refusals are counted from a blank on.
+fn run_counted<L: Ledger>(rt: &HostRuntime, launch: &Launch<'_>, blank: Blank) -> Result<(), Cause>
+    requires name { blank.name ≡ L.name }
+    requires parts { blank.parts ≡ L.parts }
+    requires some { 0 < blank.parts }
+{
     let mut panel = Panel::new(rt.alloc(), launch.config)?;
+    let mut store = MemoryStore::<L>::new(rt.alloc(), blank);
     let Ok(mut script) = File::open(rt, launch.script) else {
         return Err(Cause::Session(SessionFault::Reading));
     };
-    session(rt.alloc(), &mut panel, &mut script, &mut io::writer(rt))?;
+    session(
+        rt.alloc(),
+        &mut panel,
+        &mut store,
+        &mut script,
+        &mut io::writer(rt),
+    )?;
     Ok(())
 }

@@ -1,6 +1,7 @@
 // Calls whose growths are refused, by a heap that is full.
 use crate::tests::commands::adding;
-use crate::{Answer, Command, Config, Fault, NoMemory, Panel, play, session};
+use crate::tests::run_session;
+use crate::{Answer, Command, Config, Fault, NoMemory, Panel, play};
 use linked_list_allocator::LocalHeap;
 use std::alloc::{AllocError, Global};
 use std::test::Fail;
@@ -111,7 +112,7 @@ fn a_session_goes_on_where_memory_refuses_a_line(rt: HostRuntime) -> Result<(), 
     let mut script =
         b"deposit 1000 1 2\nset 0 7\nexamine 1000 2\ndeposit 1000\nexamine 1000\n".as_slice();
     let mut written = Vec::new(rt.alloc());
-    let answered = session(&heap, &mut panel, &mut script, &mut written);
+    let answered = run_session(&heap, &mut panel, &mut script, &mut written);
     assert_eq!(rt; answered, Ok(5));
     assert_eq!(rt;
         written.as_slice(),
@@ -120,7 +121,10 @@ fn a_session_goes_on_where_memory_refuses_a_line(rt: HostRuntime) -> Result<(), 
     drop(ballast);
     let mut again = b"deposit 1000 1 2\nexamine 1000 2\n".as_slice();
     let mut more = Vec::new(rt.alloc());
-    assert_eq!(rt; session(&heap, &mut panel, &mut again, &mut more), Ok(2));
+    assert_eq!(rt;
+        run_session(&heap, &mut panel, &mut again, &mut more),
+        Ok(2)
+    );
     assert_eq!(rt;
         more.as_slice(),
         b"OK\nEXAM 001000 000001\nEXAM 001002 000002\n".as_slice()
@@ -140,13 +144,22 @@ fn a_run_that_memory_stops_before_a_character_is_finished_later(
     let mut written = Vec::new(rt.alloc());
     // WAIT, and a B that is typed 64 turns after it is written to XBUF
     let mut begin = b"deposit 1000 1\nstart 1000\ndeposit 777566 102\n".as_slice();
-    assert_eq!(rt; session(&heap, &mut panel, &mut begin, &mut written), Ok(3));
+    assert_eq!(rt;
+        run_session(&heap, &mut panel, &mut begin, &mut written),
+        Ok(3)
+    );
     let ballast = fill(rt.alloc(), &heap)?;
     let mut run = b"continue 100\nstep 1\n".as_slice();
-    assert_eq!(rt; session(&heap, &mut panel, &mut run, &mut written), Ok(2));
+    assert_eq!(rt;
+        run_session(&heap, &mut panel, &mut run, &mut written),
+        Ok(2)
+    );
     drop(ballast);
     let mut rest = b"continue 100\ncontinue 100\n".as_slice();
-    assert_eq!(rt; session(&heap, &mut panel, &mut rest, &mut written), Ok(2));
+    assert_eq!(rt;
+        run_session(&heap, &mut panel, &mut rest, &mut written),
+        Ok(2)
+    );
     assert_eq!(rt;
         written.as_slice(),
         b"OK\nOK\nOK\nSTOP memory 63 001002\nSTOP memory 0 001002\nTTY B\nSTOP idle 1 001002\nSTOP idle 0 001002\n".as_slice()

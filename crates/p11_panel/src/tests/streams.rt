@@ -1,8 +1,8 @@
 // Sessions with readers and writers that fail.
 ghost use Rattle.std.specs.Prelude.{Some};
 
-use crate::tests::new_panel;
-use crate::{Answer, Command, NoMemory, SessionFault, session};
+use crate::tests::{new_panel, run_session};
+use crate::{Answer, Command, NoMemory, SessionFault};
 use std::io;
 use std::io::{ErrorKind, Read, Write};
 use std::test::Fail;
@@ -103,7 +103,7 @@ fn each_line_is_one_write(rt: HostRuntime) -> Result<(), Fail> {
         writes: 0,
         bytes: 0,
     };
-    let answered = session(rt.alloc(), &mut panel, &mut script.as_slice(), &mut writer);
+    let answered = run_session(rt.alloc(), &mut panel, &mut script.as_slice(), &mut writer);
     assert_eq!(rt; answered, Ok(1003));
     assert_eq!(rt; writer.writes, 1003);
     // `STOP halt 1 o`, the registers, 204 words and `? 13 BadLine`
@@ -121,7 +121,7 @@ fn a_reader_fails(rt: HostRuntime) -> Result<(), Fail> {
             most,
         };
         let mut written = Vec::new(alloc);
-        let answered = session(alloc, &mut panel, &mut reader, &mut written);
+        let answered = run_session(alloc, &mut panel, &mut reader, &mut written);
         assert_eq!(rt; answered, Err(SessionFault::Reading));
         assert_eq!(rt; written.as_slice(), b"EXAM 001000 000000\n".as_slice());
     }
@@ -134,7 +134,7 @@ fn a_script_without_end_is_too_long(rt: HostRuntime) -> Result<(), Fail> {
     let mut panel = new_panel(alloc)?;
     let mut written = Vec::new(alloc);
     let mut reader = EndlessReader { reads: 0 };
-    let answered = session(alloc, &mut panel, &mut reader, &mut written);
+    let answered = run_session(alloc, &mut panel, &mut reader, &mut written);
     assert_eq!(rt; answered, Err(SessionFault::TooLong));
     assert_eq!(rt; reader.reads, 1_000_000);
     assert!(rt; written.is_empty());
@@ -152,7 +152,7 @@ fn a_writer_fails_or_takes_nothing(rt: HostRuntime) -> Result<(), Fail> {
             room: 8,
             fails,
         };
-        let answered = session(alloc, &mut panel, &mut reader, &mut writer);
+        let answered = run_session(alloc, &mut panel, &mut reader, &mut writer);
         assert_eq!(rt; answered, Err(SessionFault::Writing));
         assert_eq!(rt; writer.bytes.as_slice(), b"OK\nEXAM ".as_slice());
         // the line whose text broke is done, and none after it

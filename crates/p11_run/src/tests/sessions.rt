@@ -1,22 +1,40 @@
 // Scripts on a new machine, and all that their sessions write.
-use p11_panel::{Config, NoMemory, Panel, session};
+ghost use Rattle.std.specs.Prelude.{◌≡◌, ◌<◌};
+
+use p11_panel::{Config, MemoryStore, NoMemory, Panel, session};
 use std::alloc::Global;
+use std::marker::Brand;
 use std::process::Abort;
 use std::str::SplitWhitespace;
+use std::sync::ledger::{Blank, Ledger};
 use std::test::Fail;
 
 /// A name, a script, and the answers that it has on a new machine.
 pub(crate) type Session = (&'static str, &'static str, &'static str);
 
-/// All that the session over a script writes, on a new machine of 28 thousand words.
+/// All that the session over a script writes, on a new machine of 28 thousand words with an empty store.
 fn answers(alloc: Global, script: &str) -> Result<Vec<u8>, NoMemory> {
+    answers_counted::<Brand>(alloc, Blank::new(1), script)
+}
+
+/// The same, with a store whose refusals are counted from a blank on.
+fn answers_counted<L: Ledger>(
+    alloc: Global,
+    blank: Blank,
+    script: &str,
+) -> Result<Vec<u8>, NoMemory>
+    requires name { blank.name ≡ L.name }
+    requires parts { blank.parts ≡ L.parts }
+    requires some { 0 < blank.parts }
+{
     let Ok(config) = Config::new(28, 1024) else {
         return Err(NoMemory);
     };
     let mut panel = Panel::new(alloc, config)?;
+    let mut store = MemoryStore::<L>::new(alloc, blank);
     let mut reader = script.as_bytes();
     let mut written = Vec::new(alloc);
-    match session(alloc, &mut panel, &mut reader, &mut written) {
+    match session(alloc, &mut panel, &mut store, &mut reader, &mut written) {
         Ok(_) => Ok(written),
         Err(_) => Err(NoMemory),
     }

@@ -1,7 +1,7 @@
-use Rattle.std.proofs.Common.{◌≡◌, ◌+◌, false, true, arith, refl, subst, sym, ap, ◌∙◌}
+use Rattle.std.proofs.Common.{◌≡◌, false, true, arith, subst, sym, ap, ◌∙◌}
 use Rattle.p11_cpu.specs.State.{State}
 use Rattle.p11_panel.specs.Runs.{stops_idling}
-use Rattle.p11_panel.proofs.RunLemmas.{Goes, no_turn, goes_is, one_more, halting_turn, all_made, no_memory, needs_by, idle_now}
+use Rattle.p11_panel.proofs.RunLemmas.{no_turn, goes_is, one_more, halting_turn, all_made, no_memory, needs_by, idle_now}
 use Rattle.p11_panel.proofs.run.run.Goals as goal
 
 pub loop-made-init : goal.loop-made-init

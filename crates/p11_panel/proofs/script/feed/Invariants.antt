@@ -1,13 +1,12 @@
 use Rattle.std.proofs.Common.{◌≤◌, ◌+◌, ℕ, List, ◌++◌, Option, take}
-use Rattle.p11_cpu.specs.State.{State}
-use Rattle.p11_panel.specs.Session.{LineDoes}
+use Rattle.p11_panel.specs.Session.{SessionState, with_store, LineDoes}
 use Rattle.p11_panel.specs.Standing.{Stands}
 use Rattle.p11_panel.proofs.script.feed.Given as goal
 
 abbrev pub invariant-loop-byte : goal.invariant-loop-byte
 invariant-loop-byte g l = record {
   few : l.answered ≤ l.byte-index;
-  stands : (read : List ℕ) (s : State) (start : Option (List ℕ)) (count : ℕ)
-      → Stands (LineDoes {A = g.row.A.Denot}) read s start l.fn.panel (g.W.Write.contents l.fn.writer) count l.fn.buffer
-      → Stands (LineDoes {A = g.row.A.Denot}) (read ++ take l.byte-index l.bytes) s start l.panel (g.W.Write.contents l.writer) (count + l.answered) l.buffer;
+  stands : (read : List ℕ) (s : SessionState) (start : Option (List ℕ)) (count : ℕ)
+      → Stands (LineDoes {A = g.row.A.Denot}) read s start (with_store l.fn.panel (g.S.Store.state l.fn.store)) (g.W.Write.contents l.fn.writer) count l.fn.buffer
+      → Stands (LineDoes {A = g.row.A.Denot}) (read ++ take l.byte-index l.bytes) s start (with_store l.panel (g.S.Store.state l.store)) (g.W.Write.contents l.writer) (count + l.answered) l.buffer;
 }

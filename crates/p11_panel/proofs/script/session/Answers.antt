@@ -1,13 +1,14 @@
-use Rattle.std.proofs.Common.{◌≡◌, ◌≤◌, ◌<◌, ◌*◌, arith, rules, length, take, ◌++◌, inl, inr}
+use Rattle.std.proofs.Common.{arith, rules, take, ◌++◌, inl, inr}
 use Rattle.std.proofs.lemmas.Grind.{common_steps}
 use Rattle.std.proofs.KnownBytes.{Consumes-trans}
+use Rattle.p11_panel.specs.Session.{with_store}
 use Rattle.p11_panel.proofs.SessionLemmas.{reached_none, reached_more, consumes_zero, length-taken}
 use Rattle.p11_panel.proofs.script.session.Goals as goal
 
 pub loop-turn-init : goal.loop-turn-init
 loop-turn-init g c = record {
   few = omega arith;
-  reached = reached_none (g.R.Read.remaining c.args.reader.now) c.args.panel.now (g.W.Write.contents c.args.writer.now) c.new-buffer.result c.new-buffer.ensures;
+  reached = reached_none (g.R.Read.remaining c.args.reader.now) (with_store c.args.panel.now (g.S.Store.state c.args.store.now)) (g.W.Write.contents c.args.writer.now) c.new-buffer.result c.new-buffer.ensures;
 }
 
 pub returns-then-len-eq0-clause-ok : goal.returns-then-len-eq0-clause-ok
@@ -17,7 +18,7 @@ returns-then-len-eq0-clause-ok g c =
       consumes_zero (g.R.Read.remaining c.args.reader.now) (g.R.Read.remaining c.loop-turn.reader) (g.R.Read.remaining c.read.new.self) r.read _ _ r.consumed c.in-Ok.ensures.bytes.0 c.if-len-eq0.true,
       search rules,
       omega (arith, r.most, c.loop-turn-test.true),
-      c.in_ok-answered.ensures.ok r.read c.args.panel.now (g.W.Write.contents c.args.writer.now) c.loop-turn.answered r.stands,
+      c.in_ok-answered.ensures.ok r.read (with_store c.args.panel.now (g.S.Store.state c.args.store.now)) (g.W.Write.contents c.args.writer.now) c.loop-turn.answered r.stands,
     )
 
 pub returns-clause-long : goal.returns-clause-long
@@ -38,7 +39,7 @@ returns-in_err-answered-clause-broke g c _ =
       consumes_zero (g.R.Read.remaining c.args.reader.now) (g.R.Read.remaining c.loop-turn.reader) (g.R.Read.remaining c.read.new.self) r.read _ _ r.consumed c.in-Ok.ensures.bytes.0 c.if-len-eq0.true,
       inr (
         search rules,
-        c.in_err-answered.ensures.err r.read c.args.panel.now (g.W.Write.contents c.args.writer.now) c.loop-turn.answered r.stands,
+        c.in_err-answered.ensures.err r.read (with_store c.args.panel.now (g.S.Store.state c.args.store.now)) (g.W.Write.contents c.args.writer.now) c.loop-turn.answered r.stands,
       ),
     )
 
@@ -48,7 +49,7 @@ returns-in_err-answered-2-clause-broke g c _ =
     let bytes = take c.in-Ok.len c.read.new.buf in (
       r.read ++ bytes,
       Consumes-trans (g.R.Read.remaining c.args.reader.now) (g.R.Read.remaining c.loop-turn.reader) (g.R.Read.remaining c.read.new.self) r.read bytes r.consumed c.in-Ok.ensures.bytes.0,
-      inl (c.in_err-answered-2.ensures.err r.read c.args.panel.now (g.W.Write.contents c.args.writer.now) c.loop-turn.answered r.stands),
+      inl (c.in_err-answered-2.ensures.err r.read (with_store c.args.panel.now (g.S.Store.state c.args.store.now)) (g.W.Write.contents c.args.writer.now) c.loop-turn.answered r.stands),
     )
 
 pub loop-turn-preserved : goal.loop-turn-preserved
@@ -59,5 +60,5 @@ loop-turn-preserved g c =
     record {
       few = grind (arith, common_steps, c.in_ok-answered-2.ensures.few);
       reached = reached_more c.loop-turn._turn (g.R.Read.remaining c.args.reader.now) (g.R.Read.remaining c.loop-turn.reader) (g.R.Read.remaining c.read.new.self) _ _ _ _ c.loop-turn.answered _ bytes _ _ _ _ r c.in-Ok.ensures.bytes.0 given.0 given.1
-          (c.in_ok-answered-2.ensures.ok r.read c.args.panel.now (g.W.Write.contents c.args.writer.now) c.loop-turn.answered r.stands);
+          (c.in_ok-answered-2.ensures.ok r.read (with_store c.args.panel.now (g.S.Store.state c.args.store.now)) (g.W.Write.contents c.args.writer.now) c.loop-turn.answered r.stands);
     }

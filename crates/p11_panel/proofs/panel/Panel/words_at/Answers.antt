@@ -1,4 +1,4 @@
-use Rattle.std.proofs.Common.{◌≡◌, ◌≤◌, ◌+◌, ◌∙◌, ◌++◌, ◌∷◌, [], List, ℕ, ap, sym, subst, arith, length, vec_len, vec_capacity}
+use Rattle.std.proofs.Common.{◌≡◌, ◌+◌, ◌∙◌, List, ℕ, sym, subst, arith}
 use Rattle.p11_panel.proofs.RangeLemmas.{all_answer_at, all_answer_kept, reads_more}
 use Rattle.p11_panel.specs.Ranges.{reads_at}
 use Rattle.p11_panel.proofs.panel.Panel.words_at.Goals as goal

@@ -1,4 +1,4 @@
-use Rattle.std.proofs.Common.{◌≡◌, ◌≤◌, true, length}
+use Rattle.std.proofs.Common.{◌≡◌, ◌≤◌, true}
 use Rattle.std.specs.Prelude.{vec_len, vec_capacity}
 use Rattle.p11_panel.specs.Ranges.{all_answer, reads_at}
 use Rattle.p11_panel.proofs.panel.Panel.words_at.Given as goal

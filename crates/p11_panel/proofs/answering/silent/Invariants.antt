@@ -1,6 +1,6 @@
 use Rattle.std.proofs.Common.{◌≡◌, length}
 use Rattle.p11_panel.specs.Session.{is_silent}
-use Rattle.p11_panel.proofs.script.silent.Given as goal
+use Rattle.p11_panel.proofs.answering.silent.Given as goal
 
 abbrev pub invariant-loop-rest : goal.invariant-loop-rest
 invariant-loop-rest l = is_silent l.rest ≡ is_silent l.fn.line
