@@ -3,7 +3,7 @@ use Rattle.std.proofs.Common.{◌≡◌, ℕ, refl}
 use Rattle.std.specs.Prelude.{Option, Some, None}
 use Rattle.p11_rk11.specs.Memory.{Words}
 use Rattle.p11_unibus.specs.declared.register.Register.{Register}
-use Rattle.p11_unibus.specs.declared.register.Register.TheVariants.{Clock, Line, Switches}
+use Rattle.p11_unibus.specs.declared.register.Register.TheVariants.{Clock, Line, Disk, Switches}
 use Rattle.p11_unibus.specs.State.{BusState}
 use Rattle.p11_unibus.specs.Bus.{register_word, word_there}
 
@@ -14,4 +14,5 @@ unfolding register_word
 memory_shows_in_no_register turn None b m = refl
 memory_shows_in_no_register turn (Some (Clock r)) b m = refl
 memory_shows_in_no_register turn (Some (Line r)) b m = refl
+memory_shows_in_no_register turn (Some (Disk r)) b m = refl
 memory_shows_in_no_register turn (Some Switches) b m = refl

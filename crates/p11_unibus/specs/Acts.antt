@@ -1,8 +1,12 @@
--- What the devices do in a turn: the line clock nothing of itself, then the console line's receiver, then its transmitter.
+-- What the devices do in a turn: the line clock nothing of itself, then the console line's receiver, then its
+-- transmitter, and then the disk controller, which moves words from and to memory.
 use Rattle.std.specs.Prelude.{ℕ, Bool, ◌||◌, List, Option, Some, None, is_some, [], ◌∷◌, ◌++◌}
 use Rattle.p11_dl11.specs.LineEvents.{line_after_turn}
 use Rattle.p11_dl11.specs.ReceiverEvents.{receiver_due}
 use Rattle.p11_dl11.specs.TransmitterEvents.{typed_in, transmitter_due}
+use Rattle.p11_rk11.specs.Acts.{disk_after_turn}
+use Rattle.p11_rk11.specs.State.{disk_due}
+use Rattle.p11_unibus.specs.declared.acts.DueTurns.{DueTurns}
 use Rattle.p11_unibus.specs.State.{BusState}
 
 -- typed characters, with one more where there is one
@@ -10,14 +14,29 @@ unfoldable pub with_typed : List ℕ → Option ℕ → List ℕ
 with_typed typed None = typed
 with_typed typed (Some character) = typed ++ character ∷ []
 
-unfoldable pub bus_after_turn : ℕ → BusState → BusState
-bus_after_turn turn b =
+-- the console line acts, and a character that is due is typed
+unfoldable pub bus_after_line : ℕ → BusState → BusState
+bus_after_line turn b =
     record b { line = line_after_turn turn b.line; typed = with_typed b.typed (typed_in turn b.line.transmitter) }
 
--- asked between this turn and the next: the turns in which receiver and transmitter act if nothing else happens
-abbrev pub due_of : ℕ → BusState → Option ℕ × Option ℕ
-due_of turn b = (receiver_due turn b.line.receiver, transmitter_due b.line.transmitter)
+-- the disk controller acts
+unfoldable pub bus_after_disk : ℕ → BusState → BusState
+bus_after_disk turn b =
+    let after = disk_after_turn turn b.disk b.memory in record b { disk = after.0; memory = after.1 }
+
+unfoldable pub bus_after_turn : ℕ → BusState → BusState
+bus_after_turn turn b = bus_after_disk turn (bus_after_line turn b)
+
+-- asked between this turn and the next: the turns in which the devices act if nothing else happens
+unfoldable pub due_of : ℕ → BusState → DueTurns
+due_of turn b =
+    record {
+      receiver = receiver_due turn b.line.receiver;
+      transmitter = transmitter_due b.line.transmitter;
+      disk = disk_due b.disk;
+    }
 
 -- whether any device is due at a later turn
 unfoldable pub is_due : ℕ → BusState → Bool
-is_due turn b = is_some (due_of turn b).0 || is_some (due_of turn b).1
+is_due turn b =
+    let due = due_of turn b in is_some due.receiver || is_some due.transmitter || is_some due.disk

@@ -1,14 +1,16 @@
--- The Unibus as an address space of bytes at addresses of 18 bits: what shows at an address, what a write of a word there
--- leaves, and what a read leaves. All that references of a program and of the operator do follows from these three. They
--- are told the number of the turn, since a device's register may show it. An odd address holds no word, so it answers
--- nowhere.
+-- The Unibus as an address space of bytes at addresses of 18 bits: what shows at an address, what a write of a word
+-- there leaves, and what a read leaves. All that references of a program and of the operator do follows from these
+-- three. They are told the number of the turn, since a device's register may show it. An odd address holds no word, so
+-- it answers nowhere.
 use Rattle.std.specs.Prelude.{ℕ, Bool, true, false, Option, Some, None, is_some, Result, Ok, Err, ◌==◌, if◌then◌else◌}
 use Rattle.p11_kw11.specs.LineClock.{clock_word, clock_after_write}
 use Rattle.p11_dl11.specs.LineEvents.{line_word, line_after_read, line_after_write}
 use Rattle.p11_rk11.specs.Memory.{has_word, word_at, stored}
+use Rattle.p11_rk11.specs.Starts.{disk_after_write}
+use Rattle.p11_rk11.specs.State.{disk_word}
 use Rattle.p11_unibus.specs.declared.bytes.TimeOut.{TimeOut}
 use Rattle.p11_unibus.specs.declared.register.Register.{Register}
-use Rattle.p11_unibus.specs.declared.register.Register.TheVariants.{Clock, Line, Switches}
+use Rattle.p11_unibus.specs.declared.register.Register.TheVariants.{Clock, Line, Disk, Switches}
 use Rattle.p11_unibus.specs.Bytes.{even, byte_at, with_byte}
 use Rattle.p11_unibus.specs.Registers.{register_at}
 use Rattle.p11_unibus.specs.State.{BusState}
@@ -19,18 +21,21 @@ use Rattle.p11_unibus.specs.State.{BusState}
 unfoldable pub register_word : ℕ → Register → BusState → ℕ
 register_word turn (Clock r) b = clock_word b.clock
 register_word turn (Line r) b = line_word r b.line
+register_word turn (Disk r) b = disk_word turn r b.disk
 register_word turn Switches b = b.switches
 
 -- the bus once a word is written to a register in this turn; the switches can't be written
 unfoldable pub register_changed : ℕ → Register → ℕ → BusState → BusState
 register_changed turn (Clock r) word b = record b { clock = clock_after_write word b.clock }
 register_changed turn (Line r) word b = record b { line = line_after_write turn r word b.line }
+register_changed turn (Disk r) word b = record b { disk = disk_after_write turn r word b.disk }
 register_changed turn Switches word b = b
 
 -- the bus once a register is read
 unfoldable pub register_after_read : Register → BusState → BusState
 register_after_read (Clock r) b = b
 register_after_read (Line r) b = record b { line = line_after_read r b.line }
+register_after_read (Disk r) b = b
 register_after_read Switches b = b
 
 -- the same at an address where a register stands or none does

@@ -4,11 +4,14 @@ use Rattle.p11_kw11.specs.LineClock.{clock_after_init, clock_after_tick}
 use Rattle.p11_dl11.specs.LineState.{LineState}
 use Rattle.p11_dl11.specs.LineEvents.{line_after_init, line_after_key}
 use Rattle.p11_dl11.specs.declared.line.KeysFull.{KeysFull}
+use Rattle.p11_overlay.specs.Drive.{Contents}
+use Rattle.p11_rk11.specs.State.{disk_after_init, disk_after_mount, disk_after_unmount}
 use Rattle.p11_unibus.specs.State.{BusState}
 
 -- INIT: each device as its own crate says; memory, switches and typed characters stay
 unfoldable pub bus_after_init : BusState → BusState
-bus_after_init b = record b { clock = clock_after_init b.clock; line = line_after_init b.line }
+bus_after_init b =
+    record b { clock = clock_after_init b.clock; line = line_after_init b.line; disk = disk_after_init b.disk }
 
 abbrev pub with_line : BusState → LineState × Result (Unit {0}) KeysFull → BusState × Result (Unit {0}) KeysFull
 with_line b (l, outcome) = (record b { line = l }, outcome)
@@ -28,3 +31,11 @@ bus_after_switches word b = record b { switches = word }
 -- the typed characters are taken
 unfoldable pub bus_after_take : BusState → BusState
 bus_after_take b = record b { typed = [] }
+
+-- a pack is mounted on drive n
+unfoldable pub bus_after_mount : ℕ → Contents → BusState → BusState
+bus_after_mount n contents b = record b { disk = disk_after_mount n contents b.disk }
+
+-- the pack of drive n is taken off
+unfoldable pub bus_after_unmount : ℕ → BusState → BusState
+bus_after_unmount n b = record b { disk = disk_after_unmount n b.disk }

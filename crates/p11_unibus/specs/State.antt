@@ -4,18 +4,22 @@ use Rattle.p11_kw11.specs.LineClock.{LineClock, new_clock}
 use Rattle.p11_dl11.specs.LineState.{LineState}
 use Rattle.p11_dl11.specs.LineEvents.{new_line}
 use Rattle.p11_rk11.specs.Memory.{Words}
+use Rattle.p11_rk11.specs.State.{Rk11State, new_disk}
 
--- memory, as the words from address 0 up; the line clock; the console line; the switch register; and the characters that
--- were typed since they were last taken
+-- memory, as the words from address 0 up; the line clock; the console line; the disk controller with its drives; the
+-- switch register; and the characters that were typed since they were last taken
 pub record BusState : Type 0 where
   pub memory : Words
   pub clock : LineClock
   pub line : LineState
+  pub disk : Rk11State
   pub switches : ℕ
   pub typed : List ℕ
 
--- the memory that was found for the acts of a turn: room for so many typed characters
+-- the memory that was found for the acts of a turn: for each drive the sectors that may be written, and room for so
+-- many typed characters
 pub record Prepared : Type 0 where
+  pub sectors : List (List ℕ)
   pub room : ℕ
 
 -- what contracts see of a bus: all that a program or the operator may see of it, and beside it what is prepared
@@ -30,7 +34,7 @@ new_memory kwords = replicate (kwords * 1024) 0
 -- a new machine's bus
 unfoldable pub new_bus : ℕ → BusState
 new_bus kwords =
-    record { memory = new_memory kwords; clock = new_clock; line = new_line; switches = 0; typed = [] }
+    record { memory = new_memory kwords; clock = new_clock; line = new_line; disk = new_disk; switches = 0; typed = [] }
 
 -- the first bus address of the I/O page, where memory ends at the latest
 abbrev pub io_page : ℕ

@@ -1,12 +1,14 @@
 ghost use Rattle.std.specs.Prelude.{◌≡◌, ◌∷◌, [], ℕ, Bool, List, Option, is_some};
+ghost use Rattle.p11_rk11.specs.Memory.{Words};
 ghost use Rattle.p11_unibus.specs.Device.{AfterNone, BeforeEach, is_listed};
 
 use p11_dl11::Dl11;
 use p11_kw11::Kw11;
+use p11_rk11::{Rk11, due_turns_are_later, init_twice_is_init_once};
 use std::alloc::Allocator;
 
-/// A device on the bus: it has registers, it can be initialised, and it acts in turns. Three of its calls do nothing, and
-/// their contracts are the laws that every device keeps.
+/// A device on the bus: it has registers, it can be initialised, and it acts in turns. Three of its calls do nothing,
+/// and their contracts are the laws that every device keeps.
 pub trait Device {
     /// The bus addresses of its registers.
     ghost addresses: { List ℕ };
@@ -17,8 +19,8 @@ pub trait Device {
     /// The device after INIT.
     ghost after_init: { Self → Self };
 
-    /// The device after its acts in a turn.
-    ghost after_turn: { ℕ → Self → Self };
+    /// The device after its acts in a turn, as which begins memory holds these words.
+    ghost after_turn: { ℕ → Words → Self → Self };
 
     /// Asked between a turn and the next: the turns in which its parts act if nothing else happens.
     ghost due: { ℕ → Self → List (Option ℕ) };
@@ -33,8 +35,8 @@ pub trait Device {
 
     /// After its acts in a turn it is due in later turns alone, if it was due in none before.
     fn is_due_later()
-        ensures { (asked turn : ℕ) (d : Self) → AfterNone turn (due asked d)
-            → BeforeEach turn (due turn (after_turn turn d)) };
+        ensures { (asked turn : ℕ) (memory : Words) (d : Self) → AfterNone turn (due asked d)
+            → BeforeEach turn (due turn (after_turn turn memory d)) };
 
     /// INIT twice is INIT once.
     fn twice_is_once()
@@ -50,7 +52,7 @@ impl Device for Kw11 {
 
     ghost after_init = { clock_after_init };
 
-    ghost after_turn = { λ turn d. d };
+    ghost after_turn = { λ turn memory d. d };
 
     ghost due = { λ turn d. [] };
 
@@ -79,7 +81,7 @@ impl<A: Allocator> Device for Dl11<A> {
 
     ghost after_init = { line_after_init };
 
-    ghost after_turn = { line_after_turn };
+    ghost after_turn = { λ turn memory d. line_after_turn turn d };
 
     ghost due = { λ turn d. receiver_due turn d.receiver ∷ transmitter_due d.transmitter ∷ [] };
 
@@ -94,4 +96,35 @@ impl<A: Allocator> Device for Dl11<A> {
 
     #[tactic(auto, unfolding(p11_dl11::specs::LineEvents::line_after_init, p11_dl11::specs::ReceiverEvents::receiver_after_init))]
     fn twice_is_once() {}
+}
+
+impl<A: Allocator> Device for Rk11<A> {
+    ghost use Rattle.p11_rk11.specs.Acts.{disk_after_turn};
+    ghost use Rattle.p11_rk11.specs.Registers.{register_at};
+    ghost use Rattle.p11_rk11.specs.State.{disk_after_init, disk_due};
+
+    ghost addresses = { 0o777400 ∷ 0o777402 ∷ 0o777404 ∷ 0o777406 ∷ 0o777410 ∷ 0o777412 ∷ 0o777416 ∷ [] };
+
+    ghost answers = { λ address. is_some (register_at address) };
+
+    ghost after_init = { λ d. record d { state = disk_after_init d.state } };
+
+    ghost after_turn = { λ turn memory d. record d { state = (disk_after_turn turn d.state memory).0 } };
+
+    ghost due = { λ turn d. disk_due d.state ∷ [] };
+
+    fn initialize(&mut self) {
+        self.init();
+    }
+
+    #[tactic(auto, unfolding(p11_rk11::specs::Registers::register_at))]
+    fn answers_its_own() {}
+
+    fn is_due_later() {
+        due_turns_are_later();
+    }
+
+    fn twice_is_once() {
+        init_twice_is_init_once();
+    }
 }

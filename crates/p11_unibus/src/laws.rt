@@ -8,6 +8,7 @@ ghost use Rattle.p11_unibus.specs.State.{BusState, io_page, new_memory};
 
 use crate::source::Source;
 use p11_psw::Priority;
+use p11_rk11::nothing_happens_before_due;
 
 /// Memory of 124 thousand (1,024) words at most has no word on the I/O page.
 #[tactic(auto, unfolding(crate::specs::State::new_memory, p11_rk11::specs::Memory::has_word))]
@@ -23,7 +24,7 @@ pub fn a_byte_is_read_back(address: u32, byte: u16, word: u16)
 {}
 
 /// An odd address answers nowhere.
-#[tactic(auto, unfolding(crate::specs::Bus::answers, crate::specs::Bus::see, p11_rk11::specs::Memory::has_word, crate::specs::Registers::register_at, p11_kw11::specs::LineClock::register_at, p11_dl11::specs::Addresses::register_at))]
+#[tactic(auto, unfolding(crate::specs::Bus::answers, crate::specs::Bus::see, p11_rk11::specs::Memory::has_word, crate::specs::Registers::register_at, p11_kw11::specs::LineClock::register_at, p11_dl11::specs::Addresses::register_at, p11_rk11::specs::Registers::register_at))]
 pub fn an_odd_address_answers_nowhere(turn: u64, address: u32)
     requires { address % 2 ≡ 1 }
     ensures { (b : BusState) → answers turn address b ≡ false }
@@ -36,15 +37,17 @@ pub fn a_word_written_to_memory_shows(turn: u64, address: u32, word: u16)
     ensures elsewhere { StaysElsewhere turn address word }
 {}
 
-/// Of the requests above a priority none is of a higher level than the one that is granted, and one is granted where any
-/// stands.
+/// Of the requests above a priority none is of a higher level than the one that is granted, and one is granted where
+/// any stands.
 #[tactic(auto, unfolding(crate::specs::Requests::highest_request))]
 pub fn the_highest_request_is_granted(source: Source, priority: Priority)
     ensures { GrantsNoneLower source priority }
 {}
 
 /// While nothing is due, a later turn leaves the bus as it is.
-#[tactic(auto, unfolding(crate::specs::Acts::bus_after_turn, crate::specs::Acts::is_due, crate::specs::Acts::with_typed, p11_dl11::specs::LineEvents::line_after_turn, p11_dl11::specs::ReceiverEvents::receiver_after_turn, p11_dl11::specs::ReceiverEvents::receiver_due, p11_dl11::specs::TransmitterEvents::transmitter_after_turn, p11_dl11::specs::TransmitterEvents::transmitter_due, p11_dl11::specs::TransmitterEvents::typed_in))]
+#[tactic(auto, unfolding(crate::specs::Acts::bus_after_turn, crate::specs::Acts::bus_after_line, crate::specs::Acts::bus_after_disk, crate::specs::Acts::is_due, crate::specs::Acts::due_of, crate::specs::Acts::with_typed, p11_dl11::specs::LineEvents::line_after_turn, p11_dl11::specs::ReceiverEvents::receiver_after_turn, p11_dl11::specs::ReceiverEvents::receiver_due, p11_dl11::specs::TransmitterEvents::transmitter_after_turn, p11_dl11::specs::TransmitterEvents::transmitter_due, p11_dl11::specs::TransmitterEvents::typed_in))]
 pub fn nothing_happens_where_nothing_is_due()
     ensures { (b : BusState) (turn later : ℕ) → turn < later → is_due turn b ≡ false → bus_after_turn later b ≡ b }
-{}
+{
+    nothing_happens_before_due();
+}

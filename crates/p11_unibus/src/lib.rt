@@ -1,23 +1,28 @@
-//! The Unibus of a PDP-11/40, with what stands on it: memory, the line clock, the console line and the switch register.
+//! The Unibus of a PDP-11/40, with what stands on it: memory, the line clock, the console line, the disk controller
+//! with its drives, and the switch register.
 //!
 //! What shows at an address, what a write leaves and what a read leaves are one definition each (`specs/Bus.antt`), and
 //! all references, in words and bytes, follow from these three.
 #![tactic(auto)]
 
+mod acts;
 mod bytes;
 mod device;
 mod devices;
+mod events;
 mod laws;
 mod memory;
 mod references;
 mod register;
+mod requests;
 mod source;
 mod typed;
 mod unibus;
 
+pub use acts::DueTurns;
 pub use bytes::{TimeOut, byte_of, replace_byte, word_of};
 pub use device::Device;
-pub use devices::BusDevices;
+pub use devices::{BusDevices, DiskRegisters, DriveShown};
 pub use laws::{
     a_byte_is_read_back, a_word_written_to_memory_shows, an_odd_address_answers_nowhere,
     memory_ends_below_the_io_page, nothing_happens_where_nothing_is_due,

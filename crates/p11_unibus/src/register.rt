@@ -3,6 +3,7 @@ ghost use Rattle.p11_unibus.specs.Registers.{register_at};
 
 use p11_dl11::Register as LineRegister;
 use p11_kw11::Register as ClockRegister;
+use p11_rk11::Register as DiskRegister;
 
 /// The bus address of the switch register.
 const SWITCHES: u32 = 0o777570;
@@ -14,6 +15,8 @@ pub enum Register {
     Clock(ClockRegister),
     /// One of the console line's.
     Line(LineRegister),
+    /// One of the disk controller's.
+    Disk(DiskRegister),
     /// The operator's switches, 777570, which a program can't write.
     Switches,
 }
@@ -29,6 +32,9 @@ impl Register {
         }
         if let Some(register) = LineRegister::at(address) {
             return Some(Register::Line(register));
+        }
+        if let Some(register) = DiskRegister::at(address) {
+            return Some(Register::Disk(register));
         }
         match address {
             SWITCHES => Some(Register::Switches),

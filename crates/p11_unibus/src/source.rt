@@ -9,6 +9,8 @@ use p11_psw::{Priority, Vector};
 pub enum Source {
     /// The line clock.
     Clock,
+    /// The disk controller.
+    Disk,
     /// The console line's receiver.
     Receiver,
     /// The console line's transmitter.
@@ -22,6 +24,7 @@ impl Source {
     {
         match self {
             Source::Clock => Vector::Clock,
+            Source::Disk => Vector::Disk,
             Source::Receiver => Vector::Receiver,
             Source::Transmitter => Vector::Transmitter,
         }
@@ -34,6 +37,7 @@ impl Source {
     {
         match self {
             Source::Clock => Priority::Level6,
+            Source::Disk => Priority::Level5,
             Source::Receiver => Priority::Level4,
             Source::Transmitter => Priority::Level4,
         }

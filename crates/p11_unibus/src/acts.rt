@@ -1,0 +1,91 @@
+//! What the devices on the bus do in a turn, the memory that they need for it, and when they are due.
+ghost use Rattle.std.specs.Prelude.{◌≡◌, ◌<◌, ◌≤◌, ◌^◌, true, false, OnOk, IsOk};
+ghost use Rattle.p11_rk11.specs.View as disks;
+ghost use Rattle.p11_unibus.specs.Acts.{bus_after_disk, bus_after_line, bus_after_turn, due_of, is_due};
+ghost use Rattle.p11_unibus.specs.Prepared.{IsPreparedFor, disk_view, needs_memory, types_in};
+
+use crate::unibus::Unibus;
+use std::alloc::{AllocError, Allocator};
+
+/// The turns in which the devices act if nothing else happens.
+#[derive(Clone, Copy, Debug, PartialEq, Eq)]
+pub struct DueTurns {
+    /// When the receiver takes a key.
+    pub receiver: Option<u64>,
+    /// When the transmitter types a character.
+    pub transmitter: Option<u64>,
+    /// When the transfer of the disk controller moves a sector or a seek is done, whichever is first.
+    pub disk: Option<u64>,
+}
+
+impl<A: Allocator> Unibus<A> {
+    /// Finds the memory that the acts of a turn may need: room for a character that is typed in it, and what the drive
+    /// needs for a disk write's sector that is due in it.
+    #[tactic(auto, unfolding(crate::specs::Prepared::needs_memory))]
+    pub fn prepare(&mut self, turn: u64) -> Result<(), AllocError>
+        requires { turn ≤ 2 ^ 62 }
+        ensures visible { self.new.visible ≡ self.old.visible }
+        ensures ok { OnOk result (IsPreparedFor turn self.new.visible self.new.prepared) }
+        ensures needless { needs_memory turn self.old.visible ≡ false → IsOk result }
+    {
+        self.typed.prepare(self.line.types_in(turn))?;
+        self.disk.prepare(turn)
+    }
+
+    /// What the console line does in this turn: the receiver may take a key, then a character that is due is typed.
+    #[tactic(auto, unfolding(crate::specs::Acts::bus_after_line))]
+    fn line_acts(&mut self, turn: u64)
+        requires turn { turn ≤ 2 ^ 62 }
+        requires room { types_in turn self.old.visible ≡ true → 0 < self.old.prepared.room }
+        ensures visible { self.new.visible ≡ bus_after_line turn self.old.visible }
+        ensures disk { disk_view self.new.visible self.new.prepared ≡ disk_view self.old.visible self.old.prepared }
+    {
+        self.typed.put(self.line.act(turn));
+    }
+
+    /// What the disk controller does in this turn: the transfer moves its sector where one is due, and seeks that are
+    /// due finish.
+    #[tactic(auto, unfolding(crate::specs::Acts::bus_after_disk))]
+    fn disk_acts(&mut self, turn: u64)
+        requires turn { turn ≤ 2 ^ 62 }
+        requires prepared { disks.IsPreparedFor turn (disk_view self.old.visible self.old.prepared) }
+        ensures { self.new.visible ≡ bus_after_disk turn self.old.visible }
+    {
+        self.disk.act(turn, &mut self.memory);
+    }
+
+    /// What the devices do in this turn, each in its place: the receiver, the transmitter, the disk controller.
+    #[tactic(auto, unfolding(crate::specs::Acts::bus_after_turn))]
+    pub fn devices_act(&mut self, turn: u64)
+        requires turn { turn ≤ 2 ^ 62 }
+        requires prepared { IsPreparedFor turn self.old.visible self.old.prepared }
+        ensures { self.new.visible ≡ bus_after_turn turn self.old.visible }
+    {
+        self.line_acts(turn);
+        self.disk_acts(turn);
+    }
+
+    /// Asked between this turn and the next: the turns in which the devices act if nothing else happens.
+    #[tactic(auto, unfolding(crate::specs::Acts::due_of))]
+    pub fn due(&self, turn: u64) -> DueTurns
+        requires { turn ≤ 2 ^ 62 }
+        ensures { result ≡ due_of turn self.now.visible }
+    {
+        let (receiver, transmitter) = self.line.due(turn);
+        DueTurns {
+            receiver,
+            transmitter,
+            disk: self.disk.due(),
+        }
+    }
+
+    /// Asked between this turn and the next: whether any device is due at a later turn.
+    #[tactic(auto, unfolding(crate::specs::Acts::is_due, crate::specs::Acts::due_of))]
+    pub fn is_due(&self, turn: u64) -> bool
+        requires { turn ≤ 2 ^ 62 }
+        ensures { result ≡ is_due turn self.now.visible }
+    {
+        let due = self.due(turn);
+        due.receiver.is_some() || due.transmitter.is_some() || due.disk.is_some()
+    }
+}

@@ -1,0 +1,73 @@
+//! Requests for interrupts on the bus, and their grants.
+ghost use Rattle.std.specs.Prelude.{◌≡◌};
+ghost use Rattle.p11_unibus.specs.Requests.{bus_after_service, grant_of, highest_request, requests, stands};
+
+use crate::source::Source;
+use crate::unibus::Unibus;
+use p11_dl11::Section;
+use p11_psw::{Priority, Vector};
+use std::alloc::Allocator;
+
+impl<A: Allocator> Unibus<A> {
+    /// Whether a source requests an interrupt.
+    fn requests(&self, source: Source) -> bool
+        ensures { result ≡ requests source self.now.visible }
+    {
+        match source {
+            Source::Clock => self.clock.request(),
+            Source::Disk => self.disk.request(),
+            Source::Receiver => self.line.request(Section::Receiver),
+            Source::Transmitter => self.line.request(Section::Transmitter),
+        }
+    }
+
+    /// Whether a source requests an interrupt at a level above a priority.
+    fn stands(&self, source: Source, priority: Priority) -> bool
+        ensures { result ≡ stands source priority self.now.visible }
+    {
+        self.requests(source) && source.level().is_above(priority)
+    }
+
+    /// The source of the highest request above a priority, if one stands.
+    #[tactic(auto, unfolding(crate::specs::Requests::highest_request))]
+    pub fn highest_request(&self, priority: Priority) -> Option<Source>
+        ensures { result ≡ highest_request priority self.now.visible }
+    {
+        if self.stands(Source::Clock, priority) {
+            return Some(Source::Clock);
+        }
+        if self.stands(Source::Disk, priority) {
+            return Some(Source::Disk);
+        }
+        if self.stands(Source::Receiver, priority) {
+            return Some(Source::Receiver);
+        }
+        if self.stands(Source::Transmitter, priority) {
+            return Some(Source::Transmitter);
+        }
+        None
+    }
+
+    /// Drops the request of a source.
+    #[tactic(auto, unfolding(crate::specs::Requests::bus_after_service))]
+    fn acknowledge(&mut self, source: Source)
+        ensures { self.new.visible ≡ bus_after_service source self.old.visible }
+    {
+        match source {
+            Source::Clock => self.clock.ack(),
+            Source::Disk => self.disk.ack(),
+            Source::Receiver => self.line.ack(Section::Receiver),
+            Source::Transmitter => self.line.ack(Section::Transmitter),
+        }
+    }
+
+    /// Grants the highest request above a priority, which drops it: the vector through which it interrupts.
+    #[tactic(auto, unfolding(crate::specs::Requests::grant_of))]
+    pub fn grant(&mut self, priority: Priority) -> Option<Vector>
+        ensures { grant_of priority self.old.visible ≡ (self.new.visible, result) }
+    {
+        let source = self.highest_request(priority)?;
+        self.acknowledge(source);
+        Some(source.vector())
+    }
+}
