@@ -33,3 +33,6 @@ pub use references::is_nothing_there;
 pub use register::Register;
 pub use source::Source;
 pub use unibus::Unibus;
+
+#[cfg(test)]
+mod tests;
