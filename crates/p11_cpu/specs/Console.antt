@@ -1,13 +1,14 @@
 -- What the operator does to the devices between turns, and sees of them and of memory management.
-use Rattle.std.specs.Prelude.{ℕ, Bool, not, ◌&&◌, is_some, Result}
+use Rattle.std.specs.Prelude.{ℕ, List, Bool, not, ◌&&◌, is_some, Result}
 use Rattle.p11_psw.specs.declared.priority.Priority.{Priority}
 use Rattle.p11_kt11.specs.Registers.{status_0_word}
 use Rattle.p11_dl11.specs.ReceiverEvents.{receiver_room}
 use Rattle.p11_dl11.specs.declared.line.KeysFull.{KeysFull}
+use Rattle.p11_overlay.specs.Drive.{mounted}
 use Rattle.p11_unibus.specs.declared.devices.BusDevices.{BusDevices}
 use Rattle.p11_unibus.specs.Acts.{is_due}
 use Rattle.p11_unibus.specs.Devices.{devices_of}
-use Rattle.p11_unibus.specs.Events.{bus_after_key, bus_after_tick, bus_after_switches, bus_after_take}
+use Rattle.p11_unibus.specs.Events.{bus_after_key, bus_after_tick, bus_after_switches, bus_after_take, bus_after_mount, bus_after_unmount}
 use Rattle.p11_unibus.specs.Requests.{highest_request}
 use Rattle.p11_unibus.specs.State.{BusState}
 use Rattle.p11_cpu.specs.State.{State, HardwareState, with_bus}
@@ -47,6 +48,14 @@ tick_of s = record s { bus = bus_after_tick s.bus }
 -- the switches are set
 unfoldable pub set_switches_of : ℕ → State → State
 set_switches_of word s = record s { bus = bus_after_switches word s.bus }
+
+-- a pack that holds an image, and zeros behind it, is mounted on drive n
+unfoldable pub mount_of : ℕ → List ℕ → Bool → State → State
+mount_of n image protected s = record s { bus = bus_after_mount n (mounted image protected) s.bus }
+
+-- the pack of drive n is taken off
+unfoldable pub unmount_of : ℕ → State → State
+unmount_of n s = record s { bus = bus_after_unmount n s.bus }
 
 -- what is shown of the devices
 unfoldable pub machine_devices_of : State → BusDevices

@@ -6,6 +6,7 @@
 
 mod bus;
 mod double_operand;
+mod drives;
 mod hardware;
 mod instructions;
 mod machine;

@@ -1,0 +1,48 @@
+//! The packs on the drives.
+ghost use Rattle.std.specs.Prelude.{◌≡◌, ◌<◌, false, true, is_some, option_copied};
+ghost use Rattle.p11_rk11.specs.State.{contents_of, drive_count, drive_of, is_busy};
+ghost use Rattle.p11_rk11.specs.View.{contents_lent};
+ghost use Rattle.p11_unibus.specs.Events.{bus_after_mount, bus_after_unmount};
+ghost use Rattle.p11_cpu.specs.State.{with_bus};
+
+use crate::hardware::Hardware;
+use p11_overlay::Drive;
+use std::alloc::Allocator;
+
+impl<A: Allocator> Hardware<A> {
+    /// Mounts a pack on a drive.
+    pub fn mount(&mut self, n: usize, drive: Drive<A>)
+        requires exists { n < drive_count }
+        requires empty { is_some (drive_of self.old.bus.disk n) ≡ false }
+        ensures { self.new ≡ with_bus (bus_after_mount n drive.contents self.old.bus) self.old }
+    {
+        self.ready = None;
+        self.bus.mount(n, drive);
+    }
+
+    /// Takes the pack off a drive and drops it.
+    pub fn unmount(&mut self, n: usize)
+        requires exists { n < drive_count }
+        requires mounted { is_some (drive_of self.old.bus.disk n) ≡ true }
+        requires idle { is_busy n self.old.bus.disk ≡ false }
+        ensures { self.new ≡ with_bus (bus_after_unmount n self.old.bus) self.old }
+    {
+        self.ready = None;
+        self.bus.unmount(n);
+    }
+
+    /// Whether a drive seeks or has the running transfer on it.
+    pub fn busy(&self, n: usize) -> bool
+        ensures { result ≡ is_busy n self.now.bus.disk }
+    {
+        self.bus.busy(n)
+    }
+
+    /// The pack of a drive, if one is mounted.
+    pub fn drive(&self, n: usize) -> Option<&Drive<A>>
+        ensures contents { contents_lent (option_copied result) ≡ contents_of (drive_of self.now.bus.disk n) }
+        ensures mounted { is_some result ≡ is_some (drive_of self.now.bus.disk n) }
+    {
+        self.bus.drive(n)
+    }
+}
