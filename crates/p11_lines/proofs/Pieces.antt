@@ -6,7 +6,8 @@ use Rattle.std.proofs.KnownBytes.{Appends-nil, Appends-trans}
 use Rattle.std.specs.List.{flat_map}
 use Rattle.std.specs.Prelude.{Result, Ok, Err, OnOk, OnErr, false}
 use Rattle.std.specs.Result.{is_ok, IsErr}
-use Rattle.p11_lines.specs.AnswerText.{six_octals, exam_text, exam_texts, typed_text}
+use Rattle.p11_lines.specs.AnswerText.{six_octals, exam_text, exam_texts, typed_text, drive_text, drives_text}
+use Rattle.p11_lines.specs.declared.answer.DriveShown.{DriveShown}
 use Rattle.p11_lines.specs.Escapes.{escaped}
 use Rattle.p11_lines.specs.Written.{Wrote, AppendsFront, Puts}
 use Rattle.p11_lines.specs.declared.output.Broken.{Broken}
@@ -144,6 +145,11 @@ exam_texts_drop address words i short =
     let next : address + 2 * i + 2 ≡ address + 2 * (i + 1) = omega arith in
     rw (drop-cons words i 0 short, next, add-one) refl
 
+pub drives_text_drop : (drives : List (Option DriveShown)) (i : ℕ) (d : Option DriveShown) → i < length drives
+    → drives_text i (drop i drives) ≡ drive_text i (get_or drives i d) ++ drives_text (i + 1) (drop (i + 1) drives)
+unfolding drives_text
+drives_text_drop drives i d short = rw (drop-cons drives i d short, add-one) refl
+
 -- past the last of them none is left
 pub flat_map_past : {X : Type 0} (f : X → List ℕ) (xs : List X) (i : ℕ) → length xs ≤ i → flat_map f (drop i xs) ≡ []
 flat_map_past f xs i past = rw (drop_all i xs past) refl
@@ -151,6 +157,10 @@ flat_map_past f xs i past = rw (drop_all i xs past) refl
 pub exam_texts_past : (address : ℕ) (words : List ℕ) (i : ℕ) → length words ≤ i → exam_texts address (drop i words) ≡ []
 unfolding exam_texts
 exam_texts_past address words i past = rw (drop_all i words past) refl
+
+pub drives_text_past : (drives : List (Option DriveShown)) (n i : ℕ) → length drives ≤ i → drives_text n (drop i drives) ≡ []
+unfolding drives_text
+drives_text_past drives n i past = rw (drop_all i drives past) refl
 
 -- the low 18 bits are those of the low 32
 pub six_octals_low : (address low : ℕ) → low ≡ address % 4294967296 → six_octals low ≡ six_octals address

@@ -1,13 +1,13 @@
 -- The text of a line reads as the line.
-use Rattle.std.proofs.Common.{◌≡◌, ℕ, suc, ◌<◌, ◌≤◌, true, false, not, nat_le, List, [], ◌∷◌, ◌++◌, length, map, refl, ap, ◌∙◌, arith, append-nil, Some, All, codes}
+use Rattle.std.proofs.Common.{◌≡◌, ℕ, suc, get_or, ◌<◌, ◌≤◌, Bool, true, false, not, ◌&&◌, nat_lt, nat_le, List, [], ◌∷◌, ◌++◌, length, map, refl, ap, ◌∙◌, arith, append-nil, Some, All, codes}
 use Rattle.std.specs.List.{flat_map, list_all}
 use Rattle.std.specs.Fmt.{decimal}
-use Rattle.std.proofs.lemmas.Bool.{not-true}
+use Rattle.std.proofs.lemmas.Bool.{not-true, and_parts, ltb-true}
 use Rattle.std.proofs.lemmas.Bool.Decides.{nat_tests}
 use Rattle.std.proofs.lemmas.List.Sums.{AllPass-from_list_all}
 use Rattle.p11_lines.specs.declared.line.Line.{Line}
-use Rattle.p11_lines.specs.declared.line.Line.TheVariants.{Examine, Deposit, Start, Key, Tick, Switches, Set, Step, Continue, Regs, Device}
-use Rattle.p11_lines.specs.Grammar.{is_blank, words_of, address_from, word_from, all_words_from, examine_from, deposit_from, start_from, key_from, plain_from, switches_from, set_from, turns_from, line_from_words, line_from}
+use Rattle.p11_lines.specs.declared.line.Line.TheVariants.{Mount, Unmount, Save, Changed, Examine, Deposit, Start, Key, Tick, Switches, Set, Step, Continue, Regs, Device}
+use Rattle.p11_lines.specs.Grammar.{is_blank, words_of, address_from, word_from, all_words_from, examine_from, deposit_from, start_from, key_from, plain_from, switches_from, set_from, turns_from, line_from_words, line_from, is_graphic, is_name, name_from, access_text, access_from, mount_from, save_from, drive_from, disk_line_from}
 use Rattle.p11_lines.specs.LineText.{octal, line_text, FitsCount, FitsGrammar}
 use Rattle.p11_lines.specs.Escapes.{escaped}
 use Rattle.p11_lines.proofs.Escapes.{bytes_from-escaped, graphs_of-escaped, some-escaped}
@@ -58,6 +58,36 @@ words_of-octals number (word ∷ words) small all =
 graphs_from-test : (word : List ℕ) → list_all (λ byte. not (is_blank byte)) word ≡ true → All (λ byte. is_blank byte ≡ false) word
 graphs_from-test word test k d below = not-true _ (AllPass-from_list_all (λ byte. not (is_blank byte)) word test k d below)
 
+-- a name reads as itself, and has no blank
+name_from-name : (name : List ℕ) → is_name name ≡ true → name_from name ≡ Some name
+unfolding name_from
+name_from-name name named = rw named refl
+
+graph_of-graphic : (byte : ℕ) → is_graphic byte ≡ true → is_blank byte ≡ false
+graph_of-graphic byte graphic = grind (arith, nat_tests)
+
+graphs_of-name : (name : List ℕ) → is_name name ≡ true → All (λ byte. is_blank byte ≡ false) name
+unfolding is_name
+graphs_of-name name named k d below =
+    let graphic = (and_parts (nat_lt 0 (length name) && nat_le (length name) 255) (list_all is_graphic name) named).1 in
+    graph_of-graphic (get_or name k d) (AllPass-from_list_all is_graphic name graphic k d below)
+
+some_of-name : (name : List ℕ) → is_name name ≡ true → 0 < length name
+unfolding is_name
+some_of-name name named =
+    let sizes = (and_parts (nat_lt 0 (length name) && nat_le (length name) 255) (list_all is_graphic name) named).0 in
+    ltb-true _ _ (and_parts (nat_lt 0 (length name)) (nat_le (length name) 255) sizes).0
+
+words_of-access : (protect : Bool) → words_of (access_text protect) ≡ access_text protect ∷ []
+unfolding words_of
+words_of-access false = refl
+words_of-access true = refl
+
+access_from-access : (protect : Bool) → access_from (access_text protect) ≡ Some protect
+unfolding access_from
+access_from-access false = refl
+access_from-access true = refl
+
 -- the words of each line's text
 words_of-examine : (address count : ℕ) → address ≤ 262143 → FitsCount count → words_of (codes "examine " ++ octal address ++ 32 ∷ decimal count) ≡ codes "examine" ∷ octal address ∷ decimal count ∷ []
 words_of-examine address count small fits =
@@ -98,6 +128,31 @@ words_of-key : (text : List ℕ) → 0 < length text → words_of (codes "key " 
 words_of-key text some =
     words_of-word (codes "key") 32 (escaped text) (graphs_from-test (codes "key") refl) (omega arith) refl
     ∙ ap (λ (ws : List (List ℕ)). codes "key" ∷ ws) (words_of-last (escaped text) (graphs_of-escaped text) (some-escaped text some))
+
+words_of-mount : (drive : ℕ) (name : List ℕ) (protect : Bool) → drive ≤ 65535 → is_name name ≡ true
+    → words_of (codes "mount " ++ octal drive ++ 32 ∷ (name ++ 32 ∷ access_text protect)) ≡ codes "mount" ∷ octal drive ∷ name ∷ access_text protect ∷ []
+words_of-mount drive name protect small named =
+    words_of-word (codes "mount") 32 (octal drive ++ 32 ∷ (name ++ 32 ∷ access_text protect)) (graphs_from-test (codes "mount") refl) (omega arith) refl
+    ∙ ap (λ (ws : List (List ℕ)). codes "mount" ∷ ws) (words_of-octal_more drive (name ++ 32 ∷ access_text protect) (omega arith)
+    ∙ ap (λ (ws : List (List ℕ)). octal drive ∷ ws) (words_of-word name 32 (access_text protect) (graphs_of-name name named) (some_of-name name named) refl
+    ∙ ap (λ (ws : List (List ℕ)). name ∷ ws) (words_of-access protect)))
+
+words_of-save : (drive : ℕ) (name : List ℕ) → drive ≤ 65535 → is_name name ≡ true
+    → words_of (codes "save " ++ octal drive ++ 32 ∷ name) ≡ codes "save" ∷ octal drive ∷ name ∷ []
+words_of-save drive name small named =
+    words_of-word (codes "save") 32 (octal drive ++ 32 ∷ name) (graphs_from-test (codes "save") refl) (omega arith) refl
+    ∙ ap (λ (ws : List (List ℕ)). codes "save" ∷ ws) (words_of-octal_more drive name (omega arith)
+    ∙ ap (λ (ws : List (List ℕ)). octal drive ∷ ws) (words_of-last name (graphs_of-name name named) (some_of-name name named)))
+
+words_of-unmount : (drive : ℕ) → drive ≤ 65535 → words_of (codes "unmount " ++ octal drive) ≡ codes "unmount" ∷ octal drive ∷ []
+words_of-unmount drive small =
+    words_of-word (codes "unmount") 32 (octal drive) (graphs_from-test (codes "unmount") refl) (omega arith) refl
+    ∙ ap (λ (ws : List (List ℕ)). codes "unmount" ∷ ws) (words_of-octal drive (omega arith))
+
+words_of-changed : (drive : ℕ) → drive ≤ 65535 → words_of (codes "changed " ++ octal drive) ≡ codes "changed" ∷ octal drive ∷ []
+words_of-changed drive small =
+    words_of-word (codes "changed") 32 (octal drive) (graphs_from-test (codes "changed") refl) (omega arith) refl
+    ∙ ap (λ (ws : List (List ℕ)). codes "changed" ∷ ws) (words_of-octal drive (omega arith))
 
 words_of-regs : words_of (codes "regs") ≡ codes "regs" ∷ []
 unfolding words_of
@@ -150,6 +205,25 @@ line_from_words-key : {A : Type 0} (text : List ℕ) → All (λ byte. byte ≤ 
 unfolding line_from_words key_from
 line_from_words-key text small = rw (bytes_from-escaped text small) refl
 
+line_from_words-mount : {A : Type 0} (drive : ℕ) (name : List ℕ) (protect : Bool) → drive ≤ 65535 → is_name name ≡ true
+    → line_from_words {A = A} (codes "mount" ∷ octal drive ∷ name ∷ access_text protect ∷ []) ≡ Some (Mount drive name protect)
+unfolding line_from_words disk_line_from mount_from
+line_from_words-mount drive name protect small named =
+    rw (word_from-octal drive small, name_from-name name named, access_from-access protect) refl
+
+line_from_words-save : {A : Type 0} (drive : ℕ) (name : List ℕ) → drive ≤ 65535 → is_name name ≡ true
+    → line_from_words {A = A} (codes "save" ∷ octal drive ∷ name ∷ []) ≡ Some (Save drive name)
+unfolding line_from_words disk_line_from save_from
+line_from_words-save drive name small named = rw (word_from-octal drive small, name_from-name name named) refl
+
+line_from_words-unmount : {A : Type 0} (drive : ℕ) → drive ≤ 65535 → line_from_words {A = A} (codes "unmount" ∷ octal drive ∷ []) ≡ Some (Unmount drive)
+unfolding line_from_words disk_line_from drive_from
+line_from_words-unmount drive small = rw (word_from-octal drive small) refl
+
+line_from_words-changed : {A : Type 0} (drive : ℕ) → drive ≤ 65535 → line_from_words {A = A} (codes "changed" ∷ octal drive ∷ []) ≡ Some (Changed drive)
+unfolding line_from_words disk_line_from drive_from
+line_from_words-changed drive small = rw (word_from-octal drive small) refl
+
 line_from_words-tick : {A : Type 0} → line_from_words {A = A} (codes "tick" ∷ []) ≡ Some Tick
 unfolding line_from_words plain_from
 line_from_words-tick = refl
@@ -164,6 +238,10 @@ line_from_words-regs = refl
 
 pub line_from-line_text : {A : Type 0} (line : Line A) → FitsGrammar line → length (line_text line) ≤ 4096 → line_from (line_text line) ≡ Some line
 unfolding line_text FitsGrammar
+line_from-line_text (Mount drive name protect) fits short = line_from-words _ _ _ short (words_of-mount drive name protect fits.0 fits.1) (line_from_words-mount drive name protect fits.0 fits.1)
+line_from-line_text (Unmount drive) fits short = line_from-words _ _ _ short (words_of-unmount drive fits) (line_from_words-unmount drive fits)
+line_from-line_text (Save drive name) fits short = line_from-words _ _ _ short (words_of-save drive name fits.0 fits.1) (line_from_words-save drive name fits.0 fits.1)
+line_from-line_text (Changed drive) fits short = line_from-words _ _ _ short (words_of-changed drive fits) (line_from_words-changed drive fits)
 line_from-line_text (Examine address count) fits short = line_from-words _ _ _ short (words_of-examine address count fits.0 fits.1) (line_from_words-examine address count fits.0 fits.1)
 line_from-line_text (Deposit address []) fits short = absurd (omega (arith, fits.1))
 line_from-line_text (Deposit address (word ∷ words)) fits short = line_from-words _ _ _ short (words_of-deposit address (word ∷ words) fits.0 fits.2) (line_from_words-deposit address word words fits.0 fits.2)

@@ -1,10 +1,13 @@
 -- The text of each answer. LF, which is 10, ends each line of it.
-use Rattle.std.specs.Prelude.{ℕ, ◌+◌, ◌/◌, ◌%◌, Bool, true, false, Option, Some, None, List, [], ◌∷◌, ◌++◌, codes}
+use Rattle.std.specs.Prelude.{ℕ, ◌+◌, ◌/◌, ◌%◌, Bool, true, false, Option, Some, None, List, [], ◌∷◌, ◌++◌, length}
+use Rattle.std.specs.Prelude.{codes}
 use Rattle.std.specs.List.{flat_map}
 use Rattle.std.specs.Fmt.{decimal}
 use Rattle.p11_lines.specs.declared.answer.Answer.{Answer}
 use Rattle.p11_lines.specs.declared.answer.Answer.TheVariants as answer
 use Rattle.p11_lines.specs.declared.answer.Devices.{Devices}
+use Rattle.p11_lines.specs.declared.answer.DiskRegisters.{DiskRegisters}
+use Rattle.p11_lines.specs.declared.answer.DriveShown.{DriveShown}
 use Rattle.p11_lines.specs.declared.answer.LineRegisters.{LineRegisters}
 use Rattle.p11_lines.specs.declared.answer.ManagementRegisters.{ManagementRegisters}
 use Rattle.p11_lines.specs.declared.answer.Mark.{Mark}
@@ -15,6 +18,7 @@ use Rattle.p11_lines.specs.declared.answer.StopReason.{StopReason}
 use Rattle.p11_lines.specs.declared.answer.StopReason.TheVariants.{Halt, Turns, Idle, Memory}
 use Rattle.p11_lines.specs.declared.fault.Fault.{Fault}
 use Rattle.p11_lines.specs.Escapes.{escaped}
+use Rattle.p11_lines.specs.Grammar.{access_text}
 use Rattle.p11_lines.specs.FaultTable.{number_of_fault, name_of_fault}
 
 -- six octal digits: the low 18 bits of a number, the highest digit first
@@ -95,6 +99,32 @@ line_waits_text l =
     codes " keys " ++ decimal l.keys ++ codes " rx " ++ due_text l.receiver_due
     ++ codes " tx " ++ due_text l.transmitter_due ++ codes "\n"
 
+-- `RK11 o o o o o o due d`: RKDS, RKER, RKCS, RKWC, RKBA and RKDA, and the due turn of the transfer
+unfoldable pub disk_due_text : Option ℕ → List ℕ
+disk_due_text due = codes " due " ++ due_text due ++ codes "\n"
+
+abbrev pub disk_text : DiskRegisters → List ℕ
+disk_text d =
+    codes "RK11" ++ spaced_text (d.status ∷ d.errors ∷ d.control ∷ d.word_count ∷ d.bus_address ∷ d.disk_address ∷ [])
+    ++ disk_due_text d.due
+
+-- ` rw cylinder d changed d due d`, or with `ro`: a pack's access, where the heads are, how many of its sectors were
+-- written, and the due turn of its seek
+unfoldable pub pack_text : DriveShown → List ℕ
+pack_text d =
+    codes " " ++ access_text d.protected ++ codes " cylinder " ++ decimal d.cylinder ++ codes " changed "
+    ++ decimal d.changed ++ codes " due " ++ due_text d.due ++ codes "\n"
+
+-- `DRIVE d` and what the drive has, or that it is empty
+unfoldable pub drive_text : ℕ → Option DriveShown → List ℕ
+drive_text number None = codes "DRIVE " ++ decimal number ++ codes " empty\n"
+drive_text number (Some drive) = codes "DRIVE " ++ decimal number ++ pack_text drive
+
+-- a line for each drive, from a number on
+unfoldable pub drives_text : ℕ → List (Option DriveShown) → List ℕ
+drives_text number [] = []
+drives_text number (drive ∷ drives) = drive_text number drive ++ drives_text (number + 1) drives
+
 -- `MMU o o`: SR0 and SR2, the status registers of memory management
 unfoldable pub management_text : ManagementRegisters → List ℕ
 management_text m = codes "MMU " ++ six_octals m.status_0 ++ codes " " ++ six_octals m.status_2 ++ codes "\n"
@@ -111,8 +141,15 @@ requests_text r =
 
 abbrev pub devices_text : Devices → List ℕ
 devices_text d =
-    clock_text d.clock ++ (line_words_text d.line ++ line_waits_text d.line) ++ management_text d.management
-    ++ requests_text d.requests
+    clock_text d.clock ++ (line_words_text d.line ++ line_waits_text d.line) ++ disk_text d.disk
+    ++ drives_text 0 d.drives ++ management_text d.management ++ requests_text d.requests
+
+-- `CHANGED d` and d numbers of sectors
+abbrev pub numbers_text : List ℕ → List ℕ
+numbers_text numbers = flat_map (λ number. codes " " ++ decimal number) numbers
+
+abbrev pub sectors_text : List ℕ → List ℕ
+sectors_text sectors = codes "CHANGED " ++ decimal (length sectors) ++ (numbers_text sectors ++ codes "\n")
 
 -- `? d name`: the number and the name of the fault
 abbrev pub fault_text : Fault → List ℕ
@@ -125,4 +162,6 @@ text_of (answer.Words address words) = exam_texts address words
 text_of (answer.Stop typed reason turns pc) = typed_text typed ++ stop_text reason turns pc
 text_of (answer.Registers r) = registers_text r
 text_of (answer.Devices d) = devices_text d
+text_of (answer.Sectors sectors) = sectors_text sectors
+text_of (answer.Image bytes) = codes "OK\n"
 text_of (answer.Refused fault) = fault_text fault

@@ -1,7 +1,10 @@
 -- The faults of the console, by number and name.
 use Rattle.std.specs.Prelude.{ℕ, List, codes}
 use Rattle.p11_lines.specs.declared.fault.Fault.{Fault}
-use Rattle.p11_lines.specs.declared.fault.Fault.TheVariants.{NoDrive, DriveEmpty, DriveTaken, ImageTooLong, OddAddress, NoAnswer, DriveBusy, KeysFull, BadTape, TooMany, BadRegister, NoMemory, BadLine, StoreFault, BadSize}
+use Rattle.p11_lines.specs.declared.fault.Fault.TheVariants.{NoDrive, DriveEmpty, DriveTaken, ImageTooLong}
+use Rattle.p11_lines.specs.declared.fault.Fault.TheVariants.{OddAddress, NoAnswer, DriveBusy, KeysFull, BadTape}
+use Rattle.p11_lines.specs.declared.fault.Fault.TheVariants.{TooMany, BadRegister, NoMemory, BadLine, StoreFault}
+use Rattle.p11_lines.specs.declared.fault.Fault.TheVariants.{BadSize}
 
 -- the number of a fault
 abbrev pub number_of_fault : Fault → ℕ

@@ -1,11 +1,13 @@
 -- The lines of a script: which bytes are a line, and which line they are.
-use Rattle.std.specs.Prelude.{ℕ, zero, suc, Bool, ◌&&◌, ◌||◌, nat_lt, nat_le, nat_eq, List, [], ◌∷◌, length, take, filter, Option, Some, None, option_and_then, if◌then◌else◌, codes}
+use Rattle.std.specs.Prelude.{ℕ, zero, suc, Bool, true, false, ◌&&◌, ◌||◌, nat_lt, nat_le, nat_eq, List, [], ◌∷◌}
+use Rattle.std.specs.Prelude.{length, take, filter, Option, Some, None, option_and_then, if◌then◌else◌, codes}
 use Rattle.std.specs.List.{list_all, slice_split}
 use Rattle.std.specs.Str.{bytes_eq}
 use Rattle.std.specs.Char.{digit_value}
 use Rattle.std.specs.Str.Parse.{digits_value}
 use Rattle.p11_lines.specs.declared.line.Line.{Line}
-use Rattle.p11_lines.specs.declared.line.Line.TheVariants.{Examine, Deposit, Start, Key, Tick, Switches, Set, Step, Continue, Regs, Device}
+use Rattle.p11_lines.specs.declared.line.Line.TheVariants.{Mount, Unmount, Save, Changed, Examine, Deposit, Start, Key}
+use Rattle.p11_lines.specs.declared.line.Line.TheVariants.{Tick, Switches, Set, Step, Continue, Regs, Device}
 use Rattle.p11_lines.specs.Escapes.{is_plain}
 
 -- the steps of a reading, of which each may find that there is no line
@@ -84,7 +86,60 @@ bytes_past zero (byte ∷ rest) =
 abbrev pub bytes_from : List ℕ → Option (List ℕ)
 bytes_from text = bytes_past 0 text
 
+-- ---- names and access
+
+-- 041 to 176
+abbrev pub is_graphic : ℕ → Bool
+is_graphic byte = nat_le 0o41 byte && nat_le byte 0o176
+
+-- a name: 1 to 255 graphic bytes
+unfoldable pub is_name : List ℕ → Bool
+is_name word = nat_lt 0 (length word) && nat_le (length word) 255 && list_all is_graphic word
+
+unfoldable pub name_from : List ℕ → Option (List ℕ)
+name_from word = if is_name word then Some word else None
+
+-- whether a pack is protected from writes
+abbrev pub access_text : Bool → List ℕ
+access_text false = codes "rw"
+access_text true = codes "ro"
+
+unfoldable pub access_from : List ℕ → Option Bool
+access_from word =
+    if bytes_eq word (access_text false) then Some false else (
+    if bytes_eq word (access_text true) then Some true else None)
+
 -- ---- lines
+
+-- `mount D NAME rw`, `mount D NAME ro`
+unfoldable pub mount_from : {A : Type 0} → List (List ℕ) → Option (Line A)
+mount_from [] = None
+mount_from (d ∷ []) = None
+mount_from (d ∷ n ∷ []) = None
+mount_from (d ∷ n ∷ a ∷ []) = do
+  drive ← word_from d
+  name ← name_from n
+  protect ← access_from a
+  Some (Mount drive name protect)
+mount_from (d ∷ n ∷ a ∷ more ∷ rest) = None
+
+-- `save D NAME`
+unfoldable pub save_from : {A : Type 0} → List (List ℕ) → Option (Line A)
+save_from [] = None
+save_from (d ∷ []) = None
+save_from (d ∷ n ∷ []) = do
+  drive ← word_from d
+  name ← name_from n
+  Some (Save drive name)
+save_from (d ∷ n ∷ more ∷ rest) = None
+
+-- `unmount D`, `changed D`
+unfoldable pub drive_from : {A : Type 0} → (ℕ → Line A) → List (List ℕ) → Option (Line A)
+drive_from ask [] = None
+drive_from ask (d ∷ []) = do
+  drive ← word_from d
+  Some (ask drive)
+drive_from ask (d ∷ more ∷ rest) = None
 
 -- `examine A`, `examine A N`
 unfoldable pub examine_from : {A : Type 0} → List (List ℕ) → Option (Line A)
@@ -154,6 +209,14 @@ turns_from run (n ∷ []) = do
   Some (run turns)
 turns_from run (n ∷ more ∷ rest) = None
 
+-- the line about a drive that a command of this name and these words are
+unfoldable pub disk_line_from : {A : Type 0} → List ℕ → List (List ℕ) → Option (Line A)
+disk_line_from name args =
+    if bytes_eq name (codes "mount") then mount_from args else (
+    if bytes_eq name (codes "unmount") then drive_from (λ drive. Unmount drive) args else (
+    if bytes_eq name (codes "save") then save_from args else (
+    if bytes_eq name (codes "changed") then drive_from (λ drive. Changed drive) args else None)))
+
 -- the line that these words are, the command's name first
 unfoldable pub line_from_words : {A : Type 0} → List (List ℕ) → Option (Line A)
 line_from_words [] = None
@@ -168,7 +231,7 @@ line_from_words (name ∷ args) =
     if bytes_eq name (codes "step") then turns_from (λ turns. Step turns) args else (
     if bytes_eq name (codes "continue") then turns_from (λ turns. Continue turns) args else (
     if bytes_eq name (codes "regs") then plain_from Regs args else (
-    if bytes_eq name (codes "device") then plain_from Device args else None))))))))))
+    if bytes_eq name (codes "device") then plain_from Device args else disk_line_from name args))))))))))
 
 -- the line that these bytes are, which have no end of line with them
 unfoldable pub line_from : {A : Type 0} → List ℕ → Option (Line A)

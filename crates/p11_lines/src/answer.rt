@@ -59,6 +59,38 @@ pub struct LineRegisters {
     pub transmitter_due: Option<u64>,
 }
 
+/// What shows of the disk controller.
+#[derive(Clone, Copy, Debug, PartialEq, Eq)]
+pub struct DiskRegisters {
+    /// RKDS, the drive status register.
+    pub status: u16,
+    /// RKER, the error register.
+    pub errors: u16,
+    /// RKCS, the control status register.
+    pub control: u16,
+    /// RKWC, the word count register.
+    pub word_count: u16,
+    /// RKBA, the bus address register.
+    pub bus_address: u16,
+    /// RKDA, the disk address register.
+    pub disk_address: u16,
+    /// The turn in which the running transfer moves a sector.
+    pub due: Option<u64>,
+}
+
+/// What shows of a drive with a pack in it.
+#[derive(Clone, Copy, Debug, PartialEq, Eq)]
+pub struct DriveShown {
+    /// Whether the pack is protected from writes.
+    pub protected: bool,
+    /// The cylinder at which the heads are.
+    pub cylinder: u8,
+    /// How many sectors were written since the pack was mounted.
+    pub changed: u32,
+    /// The turn in which the drive's seek is done.
+    pub due: Option<u64>,
+}
+
 /// The status registers of memory management.
 #[derive(Clone, Copy, Debug, PartialEq, Eq)]
 pub struct ManagementRegisters {
@@ -84,6 +116,10 @@ pub struct Devices {
     pub clock: u16,
     /// The console line.
     pub line: LineRegisters,
+    /// The disk controller.
+    pub disk: DiskRegisters,
+    /// Its drives by number, with a pack or empty.
+    pub drives: [Option<DriveShown>; 2],
     /// Memory management.
     pub management: ManagementRegisters,
     /// The requests.
@@ -117,6 +153,10 @@ pub enum Answer<A: Allocator = Global> {
     Registers(Registers),
     /// The devices.
     Devices(Devices),
+    /// The sectors of a pack that were written, in the order of the first write of each.
+    Sectors(Words<A>),
+    /// All that a pack holds.
+    Image(Bytes<A>),
     /// The command was refused, and changed nothing.
     Refused(Fault),
 }

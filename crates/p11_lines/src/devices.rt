@@ -6,6 +6,7 @@ ghost use Rattle.p11_lines.specs.Written.{Puts};
 
 use crate::answer::{Devices, LineRegisters, ManagementRegisters, Requests};
 use crate::output::{Broken, Table, octal, put_all};
+use crate::packs::{put_disk, put_drives};
 use arrayvec::ArrayVec;
 use itoa::Buffer;
 use std::io::Write;
@@ -19,7 +20,7 @@ fn put_clock<W: Write>(writer: &mut W, table: &mut Table, word: u16) -> Result<(
 }
 
 /// A due turn, or a dash.
-fn due_name(due: Option<u64>) -> ArrayVec<u8, 20>
+pub(crate) fn due_name(due: Option<u64>) -> ArrayVec<u8, 20>
     ensures { result.items ≡ due_text due }
 {
     let mut name = ArrayVec::new();
@@ -144,6 +145,8 @@ pub(crate) fn put_devices<W: Write>(
 {
     put_clock(writer, table, devices.clock)?;
     put_line(writer, table, &devices.line)?;
+    put_disk(writer, table, &devices.disk)?;
+    put_drives(writer, table, &devices.drives)?;
     put_management(writer, table, &devices.management)?;
     put_requests(writer, table, &devices.requests)
 }

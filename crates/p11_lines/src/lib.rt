@@ -4,18 +4,21 @@
 mod answer;
 mod bytes;
 mod devices;
+mod disks;
 mod escape;
 mod fault;
 mod keys;
 mod line;
 mod output;
+mod packs;
 mod parse;
 mod run;
 mod text;
 mod words;
 
 pub use answer::{
-    Answer, Devices, LineRegisters, ManagementRegisters, Mark, Registers, Requests, StopReason,
+    Answer, Devices, DiskRegisters, DriveShown, LineRegisters, ManagementRegisters, Mark,
+    Registers, Requests, StopReason,
 };
 pub use bytes::Bytes;
 pub use fault::{Fault, NoMemory};

@@ -3,28 +3,66 @@ use crate::bytes::Bytes;
 use crate::words::Words;
 use std::alloc::{Allocator, Global};
 
-/// A line of a script. Addresses and words are octal in the text, counts and turns decimal.
+/// A line of a script. Addresses, words and numbers of drives are octal in the text, counts and turns decimal.
 #[derive(Drop)]
 #[derive_where(Debug, PartialEq, Eq)]
 pub enum Line<A: Allocator = Global> {
+    /// Mount the pack whose image has a name in a drive, protected from writes or not.
+    Mount {
+        drive: u32,
+        name: Bytes<A>,
+        protect: bool,
+    },
+    /// Take the pack out of a drive.
+    Unmount {
+        drive: u32,
+    },
+    /// Keep what the pack in a drive holds under a name.
+    Save {
+        drive: u32,
+        name: Bytes<A>,
+    },
+    /// Show which sectors of the pack in a drive were written.
+    Changed {
+        drive: u32,
+    },
     /// Show so many words from a bus address of 18 bits on.
-    Examine { address: u32, count: u32 },
+    Examine {
+        address: u32,
+        count: u32,
+    },
     /// Store the words from a bus address of 18 bits on.
-    Deposit { address: u32, words: Words<A> },
+    Deposit {
+        address: u32,
+        words: Words<A>,
+    },
     /// Reset the bus and let the processor begin at an address of 16 bits.
-    Start { address: u16 },
+    Start {
+        address: u16,
+    },
     /// Press the keys of the console's keyboard that give these bytes.
-    Key { text: Bytes<A> },
+    Key {
+        text: Bytes<A>,
+    },
     /// Let the line clock tick.
     Tick,
     /// Set the switch register.
-    Switches { word: u16 },
+    Switches {
+        word: u16,
+    },
     /// Set the register of a number to a word.
-    Set { register: u16, value: u16 },
+    Set {
+        register: u16,
+        value: u16,
+    },
     /// Run so many turns.
-    Step { turns: u32 },
+    Step {
+        turns: u32,
+    },
     /// Run so many turns, or fewer where the machine idles.
-    Continue { turns: u32 },
+    Continue {
+        turns: u32,
+    },
     /// Show the registers.
     Regs,
     /// Show the devices.

@@ -11,6 +11,7 @@ use crate::answer::{Answer, Mark, Registers};
 use crate::devices::put_devices;
 use crate::escape::digit;
 use crate::fault::Fault;
+use crate::packs::put_sectors;
 use crate::run::put_run;
 use arrayvec::ArrayVec;
 use itoa::Buffer;
@@ -151,7 +152,11 @@ fn mark_name(mark: Mark) -> &'static str
 }
 
 /// Puts a space and six octal digits for each word.
-fn put_spaced<W: Write>(writer: &mut W, table: &mut Table, words: &[u16]) -> Result<(), Broken>
+pub(crate) fn put_spaced<W: Write>(
+    writer: &mut W,
+    table: &mut Table,
+    words: &[u16],
+) -> Result<(), Broken>
     ensures { Puts (W.contents writer.old) table.old.items (spaced_text words.now)
         (W.contents writer.new) table.new.items result }
 {
@@ -255,7 +260,7 @@ fn put_text<W: Write, A: Allocator>(
         (W.contents writer.new) table.new.items result }
 {
     match answer {
-        Answer::Done => put(writer, table, b"OK\n"),
+        Answer::Done | Answer::Image(_) => put(writer, table, b"OK\n"),
         Answer::Word { address, word } => put_word(writer, table, *address, *word),
         Answer::Words { address, words } => put_words(writer, table, *address, words.as_slice()),
         Answer::Stop {
@@ -266,6 +271,7 @@ fn put_text<W: Write, A: Allocator>(
         } => put_run(writer, table, typed.as_slice(), *reason, *turns, *pc),
         Answer::Registers(registers) => put_registers(writer, table, registers),
         Answer::Devices(devices) => put_devices(writer, table, devices),
+        Answer::Sectors(sectors) => put_sectors(writer, table, sectors.as_slice()),
         Answer::Refused(fault) => put_fault(writer, table, *fault),
     }
 }

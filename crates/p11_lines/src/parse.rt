@@ -2,9 +2,12 @@
 ghost use Rattle.std.specs.Prelude.{◌≡◌, ◌<◌, ◌≤◌, ◌∷◌, [], length, true, not, is_some, IfSome, MatchOption};
 ghost use Rattle.std.specs.List.{position};
 ghost use Rattle.std.specs.Str.Parse.{digits_value};
-ghost use Rattle.p11_lines.specs.Grammar.{is_blank, words_of, all_digits, number_from, address_from, word_from, count_from, all_words_from, examine_from, deposit_from, start_from, plain_from, switches_from, set_from, turns_from, line_from};
+ghost use Rattle.p11_lines.specs.Grammar.{is_blank, words_of, all_digits, number_from, address_from, word_from};
+ghost use Rattle.p11_lines.specs.Grammar.{count_from, all_words_from, examine_from, deposit_from, start_from};
+ghost use Rattle.p11_lines.specs.Grammar.{plain_from, switches_from, set_from, turns_from, line_from};
 ghost use Rattle.p11_lines.specs.Reading.{Reads, GivesList};
 
+use crate::disks::disk_line;
 use crate::fault::Fault;
 use crate::keys::key;
 use crate::line::Line;
@@ -270,7 +273,7 @@ fn deposit<A: Allocator>(alloc: A, args: &[u8]) -> Result<Line<A>, Fault>
 /// Reads a line, which has no end of line with it.
 ///
 /// `BadLine` for bytes that are no line; blank lines and remarks are none. `NoMemory` only for a
-/// line that holds a list: memory is asked for last, so a line in error is always known as such.
+/// line that holds a list or a name: memory is asked for last, so a line in error is always known as such.
 #[tactic(auto, unfolding(crate::specs::Grammar::line_from, crate::specs::Grammar::line_from_words))]
 pub fn parse_line<A: Allocator>(alloc: A, line: &[u8]) -> Result<Line<A>, Fault>
     ensures { Reads result (line_from line.now) }
@@ -314,5 +317,5 @@ pub fn parse_line<A: Allocator>(alloc: A, line: &[u8]) -> Result<Line<A>, Fault>
     if name == b"device".as_slice() {
         return plain(Line::Device, args).ok_or(Fault::BadLine);
     }
-    Err(Fault::BadLine)
+    disk_line(alloc, name, args)
 }

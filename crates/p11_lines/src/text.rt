@@ -1,7 +1,8 @@
 // From a line to its text.
-ghost use Rattle.std.specs.Prelude.{◌≡◌, ◌++◌, ◌∷◌, IfOk, OnOk, string_bytes};
+ghost use Rattle.std.specs.Prelude.{◌≡◌, ◌++◌, ◌∷◌, IfOk, OnOk, string_bytes, codes};
 ghost use Rattle.std.specs.List.{flat_map};
 ghost use Rattle.p11_lines.specs.Escapes.{escaped, escaped_byte};
+ghost use Rattle.p11_lines.specs.Grammar.{access_text};
 ghost use Rattle.p11_lines.specs.LineText.{line_text, octal, ReadsBack};
 
 use crate::escape::{escape, is_plain};
@@ -44,17 +45,60 @@ fn push_escaped<A: Allocator>(text: &mut Vec<u8, A>, bytes: &[u8]) -> Result<(),
     Ok(())
 }
 
+fn key_text<A: Allocator>(alloc: A, keys: &[u8]) -> Result<Vec<u8, A>, NoMemory>
+    ensures { IfOk result (λ text. text.items ≡ codes "key " ++ escaped keys.now) }
+{
+    let mut text = format!(in alloc; "key ")?.into_bytes();
+    push_escaped(&mut text, keys)?;
+    Ok(text)
+}
+
+/// How a pack is mounted.
+pub(crate) fn access_name(protect: bool) -> &'static str
+    ensures { result.now ≡ access_text protect }
+{
+    if protect { "ro" } else { "rw" }
+}
+
+fn mount_text<A: Allocator>(
+    alloc: A,
+    drive: u32,
+    name: &[u8],
+    protect: bool,
+) -> Result<Vec<u8, A>, NoMemory>
+    ensures { IfOk result (λ text. text.items
+        ≡ codes "mount " ++ octal drive ++ 32 ∷ (name.now ++ 32 ∷ access_text protect)) }
+{
+    let mut text = format!(in alloc; "mount {drive:o} ")?.into_bytes();
+    text.extend_from_slice(name)?;
+    text.push(b' ')?;
+    text.extend_from_slice(access_name(protect).as_bytes())?;
+    Ok(text)
+}
+
+fn save_text<A: Allocator>(alloc: A, drive: u32, name: &[u8]) -> Result<Vec<u8, A>, NoMemory>
+    ensures { IfOk result (λ text. text.items ≡ codes "save " ++ octal drive ++ 32 ∷ name.now) }
+{
+    let mut text = format!(in alloc; "save {drive:o} ")?.into_bytes();
+    text.extend_from_slice(name)?;
+    Ok(text)
+}
+
 /// The text of a line, with one space between words and no zeros at the front of a number.
 #[tactic(auto, unfolding(crate::specs::LineText::line_text))]
 pub fn line_of<A: Allocator>(alloc: A, line: &Line<A>) -> Result<Vec<u8, A>, NoMemory>
     ensures { IfOk result (λ text. text.items ≡ line_text line.now) }
 {
     let text = match line {
-        Line::Key { text: keys } => {
-            let mut text = format!(in alloc; "key ")?.into_bytes();
-            push_escaped(&mut text, keys.as_slice())?;
-            return Ok(text);
-        }
+        Line::Mount {
+            drive,
+            name,
+            protect,
+        } => return mount_text(alloc, *drive, name.as_slice(), *protect),
+        Line::Unmount { drive } => format!(in alloc; "unmount {drive:o}")?,
+        Line::Save { drive, name } => return save_text(alloc, *drive, name.as_slice()),
+        Line::Changed { drive } => format!(in alloc; "changed {drive:o}")?,
+        Line::Key { text } => return key_text(alloc, text.as_slice()),
         Line::Examine { address, count } => format!(in alloc; "examine {address:o} {count}")?,
         Line::Deposit { address, words } => {
             let mut text = format!(in alloc; "deposit {address:o}")?;

@@ -7,7 +7,15 @@ use Rattle.p11_cpu.specs.State.{State}
 use Rattle.p11_cpu.specs.Operator.{console_register, start_of, set_reg_of}
 use Rattle.p11_cpu.specs.Console.{tick_of, set_switches_of, take_typed_of}
 use Rattle.p11_panel.specs.declared.command.Command.TheVariants as commands
-use Rattle.p11_panel.specs.Commands.{IsDone, Examines, Stops, examine_fault, deposit_fault, start_fault, key_fault, step_fault, registers_of, shown_devices}
+use Rattle.p11_panel.specs.Commands.{Examines, Stops, examine_fault, deposit_fault, start_fault, key_fault, step_fault}
+use Rattle.p11_panel.specs.Disks.{FindsMemory, mount_fault}
+use Rattle.p11_panel.specs.Refusals.{IsDone}
+use Rattle.p11_panel.specs.Shown.{registers_of, shown_devices}
+use Rattle.p11_rk11.specs.State.{drive_of, drive_count, contents_of, is_busy}
+use Rattle.std.specs.Bool.{MatchBool}
+use Rattle.std.specs.Prelude.{nat_le}
+use Rattle.p11_cpu.specs.Console.{mount_of, unmount_of}
+use Rattle.p11_overlay.specs.Drive.{image_of}
 use Rattle.p11_panel.specs.Runs.{stops_idling}
 use Rattle.p11_panel.specs.Keys.{pressed}
 use Rattle.p11_panel.specs.Ranges.{deposited}
@@ -22,6 +30,22 @@ done_once done answer other after s' t' h k = (h.0 ∙ sym k.0, h.1 ∙ sym k.1)
 either_once : {F : Type 0} (fault : Option F) (P Q : Type 0) (R T : F → Type 0) (G : Type 0) → (P → Q → G) → ((f : F) → R f → T f → G) → MatchOption fault P R → MatchOption fault Q T → G
 either_once None P Q R T G done refused h k = done h k
 either_once (Some f) P Q R T G done refused h k = refused f h k
+
+-- what finds memory both times is done both times
+finds_memory_once : {A : Type 0} (done answer other : Answer A) (after s s' t' : State) → HadMemory answer → HadMemory other → FindsMemory done after s answer s' → FindsMemory done after s other t' → (answer ≡ other) × (s' ≡ t')
+finds_memory_once done answer other after s s' t' m l (inl h) (inl k) = done_once done answer other after s' t' h k
+finds_memory_once done answer other after s s' t' m l (inl h) (inr k) = absurd (l.0 k.0)
+finds_memory_once done answer other after s s' t' m l (inr h) k = absurd (m.0 h.0)
+
+-- there is no such drive both times, or it is empty both times, or it has one pack
+on_pack_once : {F : Type 0} (absent : Bool) (pack : Option F) (P P' Q Q' : Type 0) (R R' : F → Type 0) (G : Type 0) → (P → P' → G) → (Q → Q' → G) → ((f : F) → R f → R' f → G) → MatchBool absent P (MatchOption pack Q R) → MatchBool absent P' (MatchOption pack Q' R') → G
+on_pack_once true pack P P' Q Q' R R' G none empty there h k = none h k
+on_pack_once false None P P' Q Q' R R' G none empty there h k = empty h k
+on_pack_once false (Some f) P P' Q Q' R R' G none empty there h k = there f h k
+
+one_of_two : (busy : Bool) (P P' Q Q' G : Type 0) → (P → P' → G) → (Q → Q' → G) → MatchBool busy P Q → MatchBool busy P' Q' → G
+one_of_two true P P' Q Q' G yes_both no_both h k = yes_both h k
+one_of_two false P P' Q Q' G yes_both no_both h k = no_both h k
 
 examines_once : {A : Type 0} (address n : ℕ) (s : State) (answer other : Answer A) (s' t' : State) → HadMemory answer → HadMemory other → Examines address n s answer s' → Examines address n s other t' → (answer ≡ other) × (s' ≡ t')
 examines_once address n s answer other s' t' m l (inl h) (inl k) = let same = sym h ∙ k in (ap (λ r. r.1) same, ap (λ r. r.0) same)
@@ -41,6 +65,17 @@ stops_once {A} law asked n s answer other s' t' m l h k =
     (h.4 ∙ (made ∙ (why ∙ (where_to ∙ sym k.4))), h.5 ∙ (ap take_typed_of run.2 ∙ sym k.5))
 
 pub acts_once : {A : Type 0} → RunsHaveOneOutcome → CommandsHaveOneOutcome A
+acts_once {A} law s (commands.Mount drive image protect) answer other s' t' h k m l =
+    either_once (mount_fault drive image s) _ _ _ _ _ (finds_memory_once answers.Done answer other (mount_of drive image protect s) s s' t' m l) (λ fault. done_once (answers.Refused fault) answer other s s' t') h k
+acts_once {A} law s (commands.Unmount drive) answer other s' t' h k m l =
+    on_pack_once (nat_le drive_count drive) (contents_of (drive_of s.bus.disk drive)) _ _ _ _ _ _ _ (done_once (answers.Refused _) answer other s s' t') (done_once (answers.Refused _) answer other s s' t')
+    (λ pack. one_of_two (is_busy drive s.bus.disk) _ _ _ _ _ (done_once (answers.Refused _) answer other s s' t') (done_once answers.Done answer other (unmount_of drive s) s' t')) h k
+acts_once {A} law s (commands.Save drive) answer other s' t' h k m l =
+    on_pack_once (nat_le drive_count drive) (contents_of (drive_of s.bus.disk drive)) _ _ _ _ _ _ _ (done_once (answers.Refused _) answer other s s' t') (done_once (answers.Refused _) answer other s s' t')
+    (λ pack. finds_memory_once (answers.Image (image_of pack)) answer other s s s' t' m l) h k
+acts_once {A} law s (commands.Changed drive) answer other s' t' h k m l =
+    on_pack_once (nat_le drive_count drive) (contents_of (drive_of s.bus.disk drive)) _ _ _ _ _ _ _ (done_once (answers.Refused _) answer other s s' t') (done_once (answers.Refused _) answer other s s' t')
+    (λ pack. finds_memory_once (answers.Sectors pack.changed) answer other s s s' t' m l) h k
 acts_once {A} law s (commands.Examine address n) answer other s' t' h k m l =
     either_once (examine_fault address n s) _ _ _ _ _ (examines_once address n s answer other s' t' m l) (λ fault. done_once (answers.Refused fault) answer other s s' t') h k
 acts_once {A} law s (commands.Deposit address words) answer other s' t' h k m l =

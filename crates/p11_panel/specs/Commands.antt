@@ -5,20 +5,18 @@ use Rattle.p11_lines.specs.declared.fault.Fault.{Fault}
 use Rattle.p11_lines.specs.declared.fault.Fault.TheVariants.{TooMany, OddAddress, NoAnswer, BadRegister, KeysFull, NoMemory}
 use Rattle.p11_lines.specs.declared.answer.Answer.{Answer}
 use Rattle.p11_lines.specs.declared.answer.Answer.TheVariants as answers
-use Rattle.p11_lines.specs.declared.answer.Devices.{Devices}
-use Rattle.p11_lines.specs.declared.answer.Mark.{Mark}
-use Rattle.p11_lines.specs.declared.answer.Mark.TheVariants.{Ready, Waiting, Halted}
-use Rattle.p11_lines.specs.declared.answer.Registers.{Registers}
 use Rattle.p11_lines.specs.declared.answer.StopReason.{StopReason}
-use Rattle.p11_psw.specs.Status.{status_word}
-use Rattle.p11_cpu.specs.State.{State, Processor}
+use Rattle.p11_cpu.specs.State.{State}
 use Rattle.p11_cpu.specs.Operator.{examine_of, start_of, console_register, set_reg_of}
-use Rattle.p11_cpu.specs.Console.{room_of, tick_of, set_switches_of, take_typed_of, machine_devices_of, status_0_of, status_2_of}
+use Rattle.p11_cpu.specs.Console.{room_of, tick_of, set_switches_of, take_typed_of}
 use Rattle.p11_panel.specs.declared.command.Command.{Command}
 use Rattle.p11_panel.specs.declared.command.Command.TheVariants as commands
 use Rattle.p11_panel.specs.Ranges.{all_answer, reads_at, deposited}
+use Rattle.p11_panel.specs.Disks.{Mounts, Unmounts, Saves, ShowsChanged}
 use Rattle.p11_panel.specs.Keys.{pressed}
+use Rattle.p11_panel.specs.Refusals.{IsRefused, IsDone}
 use Rattle.p11_panel.specs.Runs.{IsRun, stops_idling}
+use Rattle.p11_panel.specs.Shown.{registers_of, shown_devices}
 
 -- EXAMINE: 1 to 512 words from an even address on, all of which answer
 unfoldable pub examine_fault : ℕ → ℕ → State → Option Fault
@@ -66,56 +64,6 @@ step_fault n s =
     else (if nat_lt 100000000 n then Some TooMany
     else (if nat_lt 0x4000_0000_0000_0000 (s.turns + n) then Some TooMany else None))
 
--- REGS: the processor's registers and status, the count of turns, and the mark
-abbrev pub mark_of : Processor → Mark
-mark_of p = if p.halted then Halted else (if p.waiting then Waiting else Ready)
-
-unfoldable pub registers_of : State → Registers
-registers_of s =
-    let p = s.processor in
-    record {
-      general = p.registers.general;
-      kernel_sp = p.registers.kernel_sp;
-      user_sp = p.registers.user_sp;
-      pc = p.registers.pc;
-      status = status_word p.status;
-      turns = s.turns;
-      mark = mark_of p;
-    }
-
--- DEVICE: the clock, the console line, memory management and the requests. No disk is there yet to request.
-unfoldable pub shown_devices : State → Devices
-shown_devices s =
-    let d = machine_devices_of s in
-    record {
-      clock = d.clock;
-      line =
-          record {
-            receiver_status = d.receiver_status;
-            receiver_buffer = d.receiver_buffer;
-            transmitter_status = d.transmitter_status;
-            keys = d.keys;
-            receiver_due = d.receiver_due;
-            transmitter_due = d.transmitter_due;
-          };
-      management = record { status_0 = status_0_of s; status_2 = status_2_of s };
-      requests =
-          record {
-            clock = d.clock_request;
-            disk = false;
-            receiver = d.receiver_request;
-            transmitter = d.transmitter_request;
-          };
-    }
-
--- a refused command answers its fault, and changes nothing
-abbrev pub IsRefused : {A S : Type 0} → Fault → S → Answer A → S → Type 0
-IsRefused fault s answer s' = (answer ≡ answers.Refused fault) × (s' ≡ s)
-
--- an answer and a next state that nothing leaves open
-abbrev pub IsDone : {A : Type 0} → Answer A → State → Answer A → State → Type 0
-IsDone done after answer s' = (answer ≡ done) × (s' ≡ after)
-
 -- EXAMINE reads its words. The list of several may find no memory, before the first is read.
 abbrev pub Examines : {A : Type 0} → ℕ → ℕ → State → Answer A → State → Type 0
 Examines address n s answer s' = (examined address n s ≡ (s', answer)) ⊎ ((1 < n) × IsRefused NoMemory s answer s')
@@ -134,6 +82,10 @@ Stops asked n s answer s' =
 
 -- What a command does to a machine: the answer, and the state after it.
 abbrev pub Acts : {A : Type 0} → State → Command A → Answer A → State → Type 0
+Acts s (commands.Mount drive image protect) answer s' = Mounts drive image protect s answer s'
+Acts s (commands.Unmount drive) answer s' = Unmounts drive s answer s'
+Acts s (commands.Save drive) answer s' = Saves drive s answer s'
+Acts s (commands.Changed drive) answer s' = ShowsChanged drive s answer s'
 Acts s (commands.Examine address n) answer s' =
     MatchOption (examine_fault address n s) (Examines address n s answer s') (λ fault. IsRefused fault s answer s')
 Acts s (commands.Deposit address words) answer s' =

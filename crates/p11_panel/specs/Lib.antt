@@ -3,6 +3,9 @@ pub mod Runs
 pub mod Laws
 pub mod Ranges
 pub mod Keys
+pub mod Refusals
+pub mod Shown
+pub mod Disks
 pub mod Commands
 pub mod Play
 pub mod Script

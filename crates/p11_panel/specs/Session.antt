@@ -5,7 +5,9 @@ use Rattle.std.specs.List.{flat_map}
 use Rattle.std.specs.Bool.{MatchBool}
 use Rattle.std.specs.Io.KnownBytes.{Appends}
 use Rattle.p11_lines.specs.declared.answer.Answer.{Answer}
-use Rattle.p11_lines.specs.declared.fault.Fault.TheVariants.{BadLine, NoMemory}
+use Rattle.p11_lines.specs.declared.answer.Answer.TheVariants as answers
+use Rattle.p11_lines.specs.declared.fault.Fault.{Fault}
+use Rattle.p11_lines.specs.declared.fault.Fault.TheVariants.{BadLine, NoMemory, StoreFault}
 use Rattle.p11_lines.specs.declared.line.Line.{Line}
 use Rattle.p11_lines.specs.declared.line.Line.TheVariants as lines
 use Rattle.p11_lines.specs.AnswerText.{text_of}
@@ -13,10 +15,13 @@ use Rattle.p11_lines.specs.Grammar.{is_blank, line_from}
 use Rattle.p11_lines.specs.Reading.{holds_list}
 use Rattle.p11_lines.specs.Written.{AppendsFront}
 use Rattle.p11_cpu.specs.State.{State}
-use Rattle.p11_panel.specs.Store.{StoreState}
+use Rattle.p11_panel.specs.Refusals.{IsRefused}
+use Rattle.p11_panel.specs.Store.{StoreState, Fetches, FailsToFetch, Puts, FailsToPut}
+use Rattle.p11_panel.specs.declared.store.StoreError.{StoreError}
+use Rattle.p11_panel.specs.declared.store.StoreError.TheVariants as errors
 use Rattle.p11_panel.specs.declared.command.Command.{Command}
 use Rattle.p11_panel.specs.declared.command.Command.TheVariants as commands
-use Rattle.p11_panel.specs.Commands.{Acts, IsRefused}
+use Rattle.p11_panel.specs.Commands.{Acts}
 
 -- what a session goes on over: a machine, and a store of files
 pub record SessionState : Type 0 where
@@ -35,29 +40,54 @@ is_silent (byte ∷ bytes) = if is_blank byte then is_silent bytes else nat_eq b
 unfoldable pub has_answer : List ℕ → Bool
 has_answer line = nat_lt 4096 (length line) || not (is_silent line)
 
--- the command that a line asks for
-unfoldable pub command_of : {A : Type 0} → Line A → Command A
-command_of (lines.Examine address count) = commands.Examine address count
-command_of (lines.Deposit address words) = commands.Deposit address words
-command_of (lines.Start address) = commands.Start address
-command_of (lines.Key text) = commands.Key text
-command_of lines.Tick = commands.Tick
-command_of (lines.Switches word) = commands.Switches word
-command_of (lines.Set register value) = commands.Set register value
-command_of (lines.Step turns) = commands.Step turns
-command_of (lines.Continue turns) = commands.Continue turns
-command_of lines.Regs = commands.Regs
-command_of lines.Device = commands.Device
-
 -- a command leaves the store
 abbrev pub IsCommand : {A : Type 0} → Command A → SessionState → Answer A → SessionState → Type 0
 IsCommand command s answer s' = Acts s.machine command answer s'.machine × (s'.store ≡ s.store)
 
--- What a line with an answer does, by what the grammar makes of it: the command, or nothing where it is no line. Reading
--- a line that holds a list may find no memory, before all else.
+-- what a fetch is answered that gives no bytes
+abbrev pub fault_of : StoreError → Fault
+fault_of errors.Refused = StoreFault
+fault_of errors.NoMemory = NoMemory
+
+-- MOUNT of the bytes under a name, which are fetched before all else
+abbrev pub MountsFile : {A : Type 0} → ℕ → List ℕ → Bool → SessionState → Answer A → SessionState → Type 0
+MountsFile drive name protect s answer s' =
+    ((image : List ℕ) × Fetches s.store name image s'.store × Acts s.machine (commands.Mount drive image protect) answer s'.machine)
+    ⊎ ((error : StoreError) × FailsToFetch s.store error s'.store × (answer ≡ answers.Refused (fault_of error)) × (s'.machine ≡ s.machine))
+
+-- what SAVE shows is put under a name
+abbrev pub Keeps : {A : Type 0} → List ℕ → List ℕ → StoreState → Answer A → StoreState → Type 0
+Keeps name image s answer s' = (Puts s name image s' × (answer ≡ answers.Done)) ⊎ (FailsToPut s name s' × (answer ≡ answers.Refused StoreFault))
+
+-- SAVE under a name; where it is refused, nothing is put
+abbrev pub SavesFile : {A : Type 0} → ℕ → List ℕ → SessionState → Answer A → SessionState → Type 0
+SavesFile {A} drive name s answer s' = (s'.machine ≡ s.machine) × (
+    ((image : List ℕ) × Acts {A = A} s.machine (commands.Save drive) (answers.Image image) s.machine × Keeps name image s.store answer s'.store)
+    ⊎ ((fault : Fault) × Acts {A = A} s.machine (commands.Save drive) (answers.Refused fault) s.machine × (answer ≡ answers.Refused fault) × (s'.store ≡ s.store)))
+
+-- what a line does that the grammar has
+unfoldable pub Obeys : {A : Type 0} → Line A → SessionState → Answer A → SessionState → Type 0
+Obeys (lines.Mount drive name protect) s answer s' = MountsFile drive name protect s answer s'
+Obeys (lines.Unmount drive) s answer s' = IsCommand (commands.Unmount drive) s answer s'
+Obeys (lines.Save drive name) s answer s' = SavesFile drive name s answer s'
+Obeys (lines.Changed drive) s answer s' = IsCommand (commands.Changed drive) s answer s'
+Obeys (lines.Examine address count) s answer s' = IsCommand (commands.Examine address count) s answer s'
+Obeys (lines.Deposit address words) s answer s' = IsCommand (commands.Deposit address words) s answer s'
+Obeys (lines.Start address) s answer s' = IsCommand (commands.Start address) s answer s'
+Obeys (lines.Key text) s answer s' = IsCommand (commands.Key text) s answer s'
+Obeys lines.Tick s answer s' = IsCommand commands.Tick s answer s'
+Obeys (lines.Switches word) s answer s' = IsCommand (commands.Switches word) s answer s'
+Obeys (lines.Set register value) s answer s' = IsCommand (commands.Set register value) s answer s'
+Obeys (lines.Step turns) s answer s' = IsCommand (commands.Step turns) s answer s'
+Obeys (lines.Continue turns) s answer s' = IsCommand (commands.Continue turns) s answer s'
+Obeys lines.Regs s answer s' = IsCommand commands.Regs s answer s'
+Obeys lines.Device s answer s' = IsCommand commands.Device s answer s'
+
+-- What a line with an answer does, by what the grammar makes of it; nothing where it is no line. Reading a line that holds
+-- a list may find no memory, before all else.
 abbrev pub Asks : {A : Type 0} → Option (Line A) → SessionState → Answer A → SessionState → Type 0
 Asks None s answer s' = IsRefused BadLine s answer s'
-Asks (Some line) s answer s' = IsCommand (command_of line) s answer s' ⊎ (IsTrue (holds_list line) × IsRefused NoMemory s answer s')
+Asks (Some line) s answer s' = Obeys line s answer s' ⊎ (IsTrue (holds_list line) × IsRefused NoMemory s answer s')
 
 -- what a line does: its answer, if it has one, and the state after it
 unfoldable pub LineDoes : {A : Type 0} → List ℕ → SessionState → Option (Answer A) → SessionState → Type 0

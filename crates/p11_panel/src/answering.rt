@@ -1,32 +1,13 @@
 ghost use Rattle.std.specs.Prelude.{◌≡◌};
 ghost use Rattle.p11_lines.specs.Grammar.{line_from};
-ghost use Rattle.p11_panel.specs.Session.{is_silent, has_answer, command_of, with_store, Asks, LineDoes};
+ghost use Rattle.p11_panel.specs.Session.{is_silent, has_answer, with_store, LineDoes};
+ghost use Rattle.p11_panel.specs.Session.{Asks, Obeys, MountsFile, SavesFile, Keeps};
 
 use crate::command::Command;
 use crate::panel::Panel;
-use crate::store::Store;
-use p11_lines::{Answer, Fault, Line, parse_line};
+use crate::store::{Store, StoreError};
+use p11_lines::{Answer, Bytes, Fault, Line, parse_line};
 use std::alloc::Allocator;
-
-/// The command that a line asks for.
-#[tactic(auto, unfolding(crate::specs::Session::command_of))]
-fn command<A: Allocator>(line: Line<A>) -> Command<A>
-    ensures { result ≡ command_of line }
-{
-    match line {
-        Line::Examine { address, count } => Command::Examine { address, count },
-        Line::Deposit { address, words } => Command::Deposit { address, words },
-        Line::Start { address } => Command::Start { address },
-        Line::Key { text } => Command::Key { text },
-        Line::Tick => Command::Tick,
-        Line::Switches { word } => Command::Switches { word },
-        Line::Set { register, value } => Command::Set { register, value },
-        Line::Step { turns } => Command::Step { turns },
-        Line::Continue { turns } => Command::Continue { turns },
-        Line::Regs => Command::Regs,
-        Line::Device => Command::Device,
-    }
-}
 
 /// Whether a line is blank or a remark.
 #[tactic(auto, unfolding(crate::specs::Session::is_silent))]
@@ -43,6 +24,100 @@ fn silent(line: &[u8]) -> bool
     true
 }
 
+/// Mounts the bytes under a name.
+fn mount_file<A: Allocator + Copy, S: Store>(
+    alloc: A,
+    panel: &mut Panel<A>,
+    store: &mut S,
+    drive: u32,
+    name: &[u8],
+    protect: bool,
+) -> Answer<A>
+    ensures { MountsFile drive name.now protect (with_store panel.old (S.state store.old)) result
+        (with_store panel.new (S.state store.new)) }
+{
+    match store.fetch(alloc, name) {
+        Ok(image) => {
+            let image = Bytes::from_vec(image);
+            panel.act(
+                alloc,
+                &Command::Mount {
+                    drive,
+                    image,
+                    protect,
+                },
+            )
+        }
+        Err(StoreError::Refused) => Answer::Refused(Fault::StoreFault),
+        Err(StoreError::NoMemory) => Answer::Refused(Fault::NoMemory),
+    }
+}
+
+/// Puts what a pack holds under a name.
+fn keep<A: Allocator, S: Store>(store: &mut S, name: &[u8], image: &[u8]) -> Answer<A>
+    ensures { Keeps name.now image.now (S.state store.old) result (S.state store.new) }
+{
+    match store.put(name, image) {
+        Ok(()) => Answer::Done,
+        Err(_) => Answer::Refused(Fault::StoreFault),
+    }
+}
+
+/// Saves the pack on a drive under a name.
+fn save_file<A: Allocator + Copy, S: Store>(
+    alloc: A,
+    panel: &Panel<A>,
+    store: &mut S,
+    drive: u32,
+    name: &[u8],
+) -> Answer<A>
+    ensures { SavesFile drive name.now (with_store panel.now (S.state store.old)) result
+        (with_store panel.now (S.state store.new)) }
+{
+    match panel.image(alloc, drive) {
+        Ok(image) => keep(store, name, image.as_slice()),
+        Err(fault) => Answer::Refused(fault),
+    }
+}
+
+/// Does a line that the grammar has.
+#[tactic(auto, unfolding(crate::specs::Session::Obeys))]
+fn obey<A: Allocator + Copy, S: Store>(
+    alloc: A,
+    panel: &mut Panel<A>,
+    store: &mut S,
+    line: Line<A>,
+) -> Answer<A>
+    ensures { Obeys line (with_store panel.old (S.state store.old)) result
+        (with_store panel.new (S.state store.new)) }
+{
+    match line {
+        Line::Mount {
+            drive,
+            name,
+            protect,
+        } => { mount_file(alloc, panel, store, drive, name.as_slice(), protect) }
+        Line::Unmount { drive } => panel.act(alloc, &Command::Unmount { drive }),
+        Line::Save { drive, name } => save_file(alloc, panel, store, drive, name.as_slice()),
+        Line::Changed { drive } => panel.act(alloc, &Command::Changed { drive }),
+        Line::Examine { address, count } => {
+            panel.act(alloc, &Command::Examine { address, count })
+        }
+        Line::Deposit { address, words } => {
+            panel.act(alloc, &Command::Deposit { address, words })
+        }
+        Line::Start { address } => panel.act(alloc, &Command::Start { address }),
+        Line::Key { text } => panel.act(alloc, &Command::Key { text }),
+        Line::Tick => panel.act(alloc, &Command::Tick),
+        Line::Switches { word } => panel.act(alloc, &Command::Switches { word }),
+        Line::Set { register, value } => panel.act(alloc, &Command::Set { register, value }),
+        Line::Step { turns } => panel.act(alloc, &Command::Step { turns }),
+        Line::Continue { turns } => panel.act(alloc, &Command::Continue { turns }),
+        Line::Regs => panel.act(alloc, &Command::Regs),
+        Line::Device => panel.act(alloc, &Command::Device),
+    }
+}
+
 /// Does a line that has an answer.
 fn ask<A: Allocator + Copy, S: Store>(
     alloc: A,
@@ -50,10 +125,11 @@ fn ask<A: Allocator + Copy, S: Store>(
     store: &mut S,
     line: &[u8],
 ) -> Answer<A>
-    ensures { Asks (line_from line.now) (with_store panel.old (S.state store.old)) result (with_store panel.new (S.state store.new)) }
+    ensures { Asks (line_from line.now) (with_store panel.old (S.state store.old)) result
+        (with_store panel.new (S.state store.new)) }
 {
     match parse_line(alloc, line) {
-        Ok(line) => panel.act(alloc, &command(line)),
+        Ok(line) => obey(alloc, panel, store, line),
         Err(fault) => Answer::Refused(fault),
     }
 }

@@ -4,6 +4,7 @@
 mod answering;
 mod command;
 mod config;
+mod disk;
 mod keys;
 mod laws;
 mod line_buffer;
@@ -14,6 +15,7 @@ mod range;
 mod refusal;
 mod run;
 mod script;
+mod shown;
 mod store;
 #[cfg(test)]
 mod tests;
@@ -23,8 +25,9 @@ pub use config::Config;
 pub use laws::{a_command_has_one_outcome, a_list_has_one_outcome, a_run_has_one_outcome};
 pub use memory_store::MemoryStore;
 pub use p11_lines::{
-    Answer, Bytes, Devices, Fault, Line, LineRegisters, ManagementRegisters, Mark, NoMemory,
-    Registers, Requests, StopReason, Words, line_of, parse_line,
+    Answer, Bytes, Devices, DiskRegisters, DriveShown, Fault, Line, LineRegisters,
+    ManagementRegisters, Mark, NoMemory, Registers, Requests, StopReason, Words, line_of,
+    parse_line,
 };
 pub use panel::Panel;
 pub use playing::play;

@@ -1,6 +1,6 @@
 ghost use Rattle.std.specs.Prelude.{◌≡◌, ◌<◌, ◌≤◌, ◌+◌, ◌^◌, true, IfOk};
 ghost use Rattle.p11_cpu.specs.Operator.{new_machine};
-ghost use Rattle.p11_panel.specs.Commands.{Acts, Examines, Stops, registers_of, mark_of, shown_devices};
+ghost use Rattle.p11_panel.specs.Commands.{Acts, Examines, Stops};
 ghost use Rattle.p11_panel.specs.Ranges.{all_answer};
 
 use crate::command::Command;
@@ -8,10 +8,7 @@ use crate::config::Config;
 use crate::refusal::start_refusal;
 use crate::run::run;
 use p11_cpu::{ConsoleRegister, Machine};
-use p11_lines::{
-    Answer, Bytes, Devices, Fault, LineRegisters, ManagementRegisters, Mark, NoMemory, Registers,
-    Requests, Words,
-};
+use p11_lines::{Answer, Bytes, Fault, NoMemory, Words};
 use std::alloc::{Allocator, Global};
 use std::marker::Model;
 
@@ -39,77 +36,23 @@ impl<A: Allocator + Copy> Panel<A> {
     }
 }
 
-impl<A: Allocator> Panel<A> {
-    /// What the processor shows of itself.
-    #[tactic(auto, unfolding(crate::specs::Commands::registers_of))]
-    fn registers(&self) -> Registers
-        ensures { result ≡ registers_of self.now }
-    {
-        let registers = self.machine.regs();
-        let general = registers.general;
-        Registers {
-            general,
-            kernel_sp: registers.kernel_sp,
-            user_sp: registers.user_sp,
-            pc: registers.pc,
-            status: self.machine.status().word(),
-            turns: self.machine.turns(),
-            mark: self.mark(),
-        }
-    }
-
-    /// What the devices show of themselves.
-    #[tactic(auto, unfolding(crate::specs::Commands::shown_devices))]
-    fn devices(&self) -> Devices
-        ensures { result ≡ shown_devices self.now }
-    {
-        let shown = self.machine.devices();
-        Devices {
-            clock: shown.clock,
-            line: LineRegisters {
-                receiver_status: shown.receiver_status,
-                receiver_buffer: shown.receiver_buffer,
-                transmitter_status: shown.transmitter_status,
-                keys: shown.keys,
-                receiver_due: shown.receiver_due,
-                transmitter_due: shown.transmitter_due,
-            },
-            management: ManagementRegisters {
-                status_0: self.machine.status_0(),
-                status_2: self.machine.status_2(),
-            },
-            requests: Requests {
-                clock: shown.clock_request,
-                disk: false,
-                receiver: shown.receiver_request,
-                transmitter: shown.transmitter_request,
-            },
-        }
-    }
-
-    /// What the processor does between turns.
-    fn mark(&self) -> Mark
-        ensures { result ≡ mark_of self.now.processor }
-    {
-        if self.machine.is_halted() {
-            Mark::Halted
-        } else if self.machine.is_waiting() {
-            Mark::Waiting
-        } else {
-            Mark::Ready
-        }
-    }
-}
-
 impl<A: Allocator + Copy> Panel<A> {
     /// Does one command, and answers it.
     ///
-    /// A refused command answers its first fault and changes nothing. An `Examine` of several words may find no memory
-    /// for its answer, and answers `NoMemory` then; no other command does.
+    /// A refused command answers its first fault and changes nothing. A `Mount`, a `Save`, a `Changed` and an `Examine` of
+    /// several words may find no memory, and answer `NoMemory` then; no other command does.
     pub fn act(&mut self, alloc: A, command: &Command<A>) -> Answer<A>
         ensures { Acts self.old command.now result self.new }
     {
         match command {
+            Command::Mount {
+                drive,
+                image,
+                protect,
+            } => self.mount(alloc, *drive, image.as_slice(), *protect),
+            Command::Unmount { drive } => self.unmount(*drive),
+            Command::Save { drive } => self.save(alloc, *drive),
+            Command::Changed { drive } => self.changed(alloc, *drive),
             Command::Examine { address, count } => self.examine(alloc, *address, *count),
             Command::Deposit { address, words } => self.deposit(*address, words.as_slice()),
             Command::Start { address } => self.start(*address),

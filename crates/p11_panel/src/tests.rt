@@ -2,9 +2,12 @@
 ghost use Rattle.std.specs.Prelude.{◌≡◌, ◌<◌};
 
 mod commands;
+mod disks;
 mod lines;
 mod programs;
 mod refused_growths;
+mod refused_packs;
+mod stores;
 mod streams;
 
 use crate::{Config, MemoryStore, NoMemory, Panel, SessionFault, session};

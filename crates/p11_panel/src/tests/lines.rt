@@ -133,7 +133,7 @@ fn devices_answer_the_operator(rt: HostRuntime) -> Result<(), Fail> {
     let (written, answered) = run_script(rt.alloc(), script)?;
     assert_eq!(rt;
         written.as_slice(),
-        b"KW11 000200\nDL11 000000 000000 000200 keys 0 rx - tx -\nMMU 000000 000000\nREQ 0 0 0 0\nOK\nOK\nOK\nEXAM 777570 000123\nSTOP halt 1 000002\nKW11 000200\nDL11 000200 000101 000200 keys 1 rx - tx -\nMMU 000000 000000\nREQ 0 0 0 0\nEXAM 777562 000101\nOK\nOK\nOK\nOK\nTTY \\134\nSTOP idle 64 001002\n? 8 KeysFull\nOK\nOK\nKW11 000200\nDL11 000200 000012 000200 keys 64 rx - tx -\nMMU 000000 001000\nREQ 0 0 0 0\n".as_slice()
+        b"KW11 000200\nDL11 000000 000000 000200 keys 0 rx - tx -\nRK11 000000 000000 000200 000000 000000 000000 due -\nDRIVE 0 empty\nDRIVE 1 empty\nMMU 000000 000000\nREQ 0 0 0 0\nOK\nOK\nOK\nEXAM 777570 000123\nSTOP halt 1 000002\nKW11 000200\nDL11 000200 000101 000200 keys 1 rx - tx -\nRK11 000000 000000 000200 000000 000000 000000 due -\nDRIVE 0 empty\nDRIVE 1 empty\nMMU 000000 000000\nREQ 0 0 0 0\nEXAM 777562 000101\nOK\nOK\nOK\nOK\nTTY \\134\nSTOP idle 64 001002\n? 8 KeysFull\nOK\nOK\nKW11 000200\nDL11 000200 000012 000200 keys 64 rx - tx -\nRK11 000000 000000 000200 000000 000000 000000 due -\nDRIVE 0 empty\nDRIVE 1 empty\nMMU 000000 001000\nREQ 0 0 0 0\n".as_slice()
     );
     assert_eq!(rt; answered, Ok(17));
     Ok(())

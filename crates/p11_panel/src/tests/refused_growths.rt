@@ -7,10 +7,22 @@ use std::alloc::{AllocError, Global};
 use std::test::Fail;
 
 /// All memory of a heap that is free, in pieces of 16 bytes.
-fn fill(alloc: Global, heap: &LocalHeap) -> Result<Vec<Vec<u8, &LocalHeap>>, AllocError> {
+pub(crate) fn fill(
+    alloc: Global,
+    heap: &LocalHeap,
+) -> Result<Vec<Vec<u8, &LocalHeap>>, AllocError> {
+    fill_by(alloc, heap, 16)
+}
+
+/// The memory of a heap that is free, in pieces of so many bytes.
+pub(crate) fn fill_by(
+    alloc: Global,
+    heap: &LocalHeap,
+    size: usize,
+) -> Result<Vec<Vec<u8, &LocalHeap>>, AllocError> {
     let mut pieces = Vec::new(alloc);
     for _ in 0..heap.size() / 16 {
-        let Ok(piece) = Vec::with_capacity(heap, 16) else {
+        let Ok(piece) = Vec::with_capacity(heap, size) else {
             break;
         };
         pieces.push(piece)?;

@@ -9,12 +9,12 @@ static KEYS: [Session; 11] = [
         "key abcdefghijklmnopqrstuvwxyzabcdefghijklmnopqrstuvwxyzabcdefghijkl\nkey a\n\
          device\n",
         "OK\n? 8 KeysFull\nKW11 000200\nDL11 000000 000000 000200 keys 64 rx 1 tx -\n\
-         MMU 000000 000000\nREQ 0 0 0 0\n",
+         RK11 000000 000000 000200 000000 000000 000000 due -\nDRIVE 0 empty\nDRIVE 1 empty\nMMU 000000 000000\nREQ 0 0 0 0\n",
     ),
     (
         "a text of too many keys is refused as a whole",
         "key abcdefghijklmnopqrstuvwxyzabcdefghijklmnopqrstuvwxyzabcdefghijklm\ndevice\n",
-        "? 8 KeysFull\nKW11 000200\nDL11 000000 000000 000200 keys 0 rx - tx -\nMMU 000000 000000\nREQ 0 0 0 0\n",
+        "? 8 KeysFull\nKW11 000200\nDL11 000000 000000 000200 keys 0 rx - tx -\nRK11 000000 000000 000200 000000 000000 000000 due -\nDRIVE 0 empty\nDRIVE 1 empty\nMMU 000000 000000\nREQ 0 0 0 0\n",
     ),
     (
         "two keys, 64 turns apart",
@@ -43,7 +43,7 @@ static KEYS: [Session; 11] = [
         "EXAM 777564 000200\nEXAM 777546 000200\nEXAM 777560 000000\n? 5 OddAddress\n\
          ? 6 NoAnswer\n? 11 BadRegister\n? 10 TooMany\nEXAM 001000 000000\n\
          EXAM 001002 000000\nKW11 000200\nDL11 000000 000000 000200 keys 0 rx - tx -\n\
-         MMU 000000 000000\nREQ 0 0 0 0\n",
+         RK11 000000 000000 000200 000000 000000 000000 due -\nDRIVE 0 empty\nDRIVE 1 empty\nMMU 000000 000000\nREQ 0 0 0 0\n",
     ),
     (
         "the switches show what the operator has set",
@@ -62,13 +62,13 @@ static KEYS: [Session; 11] = [
         "a byte written to the high half of the transmitter buffer sends nothing",
         "deposit 1000 112737 101 177567 777\nstart 1000\nstep 1\ndevice\nstep 100\n",
         "OK\nOK\nSTOP turns 1 001006\nKW11 000200\n\
-         DL11 000000 000000 000200 keys 0 rx - tx -\nMMU 000000 001000\nREQ 0 0 0 0\nSTOP turns 100 001006\n",
+         DL11 000000 000000 000200 keys 0 rx - tx -\nRK11 000000 000000 000200 000000 000000 000000 due -\nDRIVE 0 empty\nDRIVE 1 empty\nMMU 000000 001000\nREQ 0 0 0 0\nSTOP turns 100 001006\n",
     ),
     (
         "a byte written to the transmitter buffer is sent",
         "deposit 1000 112737 101 177566 777\nstart 1000\nstep 1\ndevice\nstep 100\n",
         "OK\nOK\nSTOP turns 1 001006\nKW11 000200\n\
-         DL11 000000 000000 000000 keys 0 rx - tx 65\nMMU 000000 001000\nREQ 0 0 0 0\nTTY A\n\
+         DL11 000000 000000 000000 keys 0 rx - tx 65\nRK11 000000 000000 000200 000000 000000 000000 due -\nDRIVE 0 empty\nDRIVE 1 empty\nMMU 000000 001000\nREQ 0 0 0 0\nTTY A\n\
          STOP turns 100 001006\n",
     ),
     (
@@ -77,9 +77,9 @@ static KEYS: [Session; 11] = [
          deposit 777564 100\ndeposit 777566 132\ndeposit 777546 100\ndevice\nset 7 1002\n\
          set 11 340\nstep 1\ndevice\nstep 100\n",
         "OK\nOK\nOK\nSTOP turns 1 001000\nOK\nOK\nOK\nOK\nKW11 000100\n\
-         DL11 000300 000101 000100 keys 2 rx - tx 65\nMMU 000000 001000\nREQ 0 0 1 1\nOK\nOK\n\
+         DL11 000300 000101 000100 keys 2 rx - tx 65\nRK11 000000 000000 000200 000000 000000 000000 due -\nDRIVE 0 empty\nDRIVE 1 empty\nMMU 000000 001000\nREQ 0 0 1 1\nOK\nOK\n\
          STOP turns 1 001004\nKW11 000200\nDL11 000000 000000 000200 keys 2 rx 65 tx -\n\
-         MMU 000000 001002\nREQ 0 0 0 0\nSTOP turns 100 001004\n",
+         RK11 000000 000000 000200 000000 000000 000000 due -\nDRIVE 0 empty\nDRIVE 1 empty\nMMU 000000 001002\nREQ 0 0 0 0\nSTOP turns 100 001004\n",
     ),
 ];
 
@@ -92,7 +92,7 @@ static ECHO: [Session; 3] = [
          step 5000\ndevice\n",
         "OK\nOK\nOK\nTTY abcdefghijklmnopqrstuvwxyzABCDEFGHIJKLMNOPQRSTUVWXYZ0123456789+/\n\
          STOP turns 5000 001000\nKW11 000200\nDL11 000000 000057 000200 keys 0 rx - tx -\n\
-         MMU 000000 001004\nREQ 0 0 0 0\n",
+         RK11 000000 000000 000200 000000 000000 000000 due -\nDRIVE 0 empty\nDRIVE 1 empty\nMMU 000000 001004\nREQ 0 0 0 0\n",
     ),
     (
         "64 keys echoed by interrupts",
@@ -103,7 +103,7 @@ static ECHO: [Session; 3] = [
         "OK\nOK\nOK\nOK\nOK\nOK\n\
          TTY abcdefghijklmnopqrstuvwxyzABCDEFGHIJKLMNOPQRSTUVWXYZ0123456789+/\n\
          STOP idle 4262 001010\nKW11 000200\nDL11 000100 000057 000200 keys 0 rx - tx -\n\
-         MMU 000000 001006\nREQ 0 0 0 0\n",
+         RK11 000000 000000 000200 000000 000000 000000 due -\nDRIVE 0 empty\nDRIVE 1 empty\nMMU 000000 001006\nREQ 0 0 0 0\n",
     ),
     (
         "a text typed by interrupts of the transmitter",
@@ -111,7 +111,7 @@ static ECHO: [Session; 3] = [
          deposit 3000 44510 41\ndeposit 1000 12701 3000 12737 100 177564 1 776\nset 6 700\n\
          start 1000\ncontinue 100000\ndevice\n",
         "OK\nOK\nOK\nOK\nOK\nOK\nTTY HI!\nSTOP idle 210 001014\nKW11 000200\n\
-         DL11 000000 000000 000200 keys 0 rx - tx -\nMMU 000000 001012\nREQ 0 0 0 0\n",
+         DL11 000000 000000 000200 keys 0 rx - tx -\nRK11 000000 000000 000200 000000 000000 000000 due -\nDRIVE 0 empty\nDRIVE 1 empty\nMMU 000000 001012\nREQ 0 0 0 0\n",
     ),
 ];
 
@@ -126,7 +126,7 @@ static PRIORITIES: [Session; 5] = [
         "OK\nOK\nOK\nOK\nOK\nOK\nOK\nOK\nOK\nSTOP turns 1 001000\nOK\nOK\n\
          STOP turns 1 001000\nOK\nOK\nSTOP turns 1 003200\nEXAM 000674 001000\n\
          EXAM 000676 000240\nKW11 000300\nDL11 000000 000000 000200 keys 0 rx - tx -\n\
-         MMU 000000 001000\nREQ 0 0 0 0\n",
+         RK11 000000 000000 000200 000000 000000 000000 due -\nDRIVE 0 empty\nDRIVE 1 empty\nMMU 000000 001000\nREQ 0 0 0 0\n",
     ),
     (
         "the receiver at level 4",
@@ -137,7 +137,7 @@ static PRIORITIES: [Session; 5] = [
         "OK\nOK\nOK\nOK\nOK\nOK\nOK\nOK\nOK\nSTOP turns 1 001000\nOK\nOK\n\
          STOP turns 1 001000\nOK\nOK\nSTOP turns 1 001000\nOK\nOK\nSTOP turns 1 001000\nOK\n\
          OK\nSTOP turns 1 003000\nEXAM 000674 001000\nEXAM 000676 000140\nKW11 000200\n\
-         DL11 000300 000101 000200 keys 0 rx - tx -\nMMU 000000 001000\nREQ 0 0 0 0\n",
+         DL11 000300 000101 000200 keys 0 rx - tx -\nRK11 000000 000000 000200 000000 000000 000000 due -\nDRIVE 0 empty\nDRIVE 1 empty\nMMU 000000 001000\nREQ 0 0 0 0\n",
     ),
     (
         "the transmitter at level 4",
@@ -148,7 +148,7 @@ static PRIORITIES: [Session; 5] = [
         "OK\nOK\nOK\nOK\nOK\nOK\nOK\nOK\nOK\nSTOP turns 1 001000\nOK\nOK\n\
          STOP turns 1 001000\nOK\nOK\nSTOP turns 1 001000\nOK\nOK\nSTOP turns 1 003100\n\
          EXAM 000674 001000\nEXAM 000676 000140\nKW11 000200\n\
-         DL11 000000 000000 000300 keys 0 rx - tx -\nMMU 000000 001000\nREQ 0 0 0 0\n",
+         DL11 000000 000000 000300 keys 0 rx - tx -\nRK11 000000 000000 000200 000000 000000 000000 due -\nDRIVE 0 empty\nDRIVE 1 empty\nMMU 000000 001000\nREQ 0 0 0 0\n",
     ),
     (
         "the clock, then the receiver, then the transmitter",
@@ -157,9 +157,9 @@ static PRIORITIES: [Session; 5] = [
          deposit 777564 100\ndeposit 777546 300\ndevice\nset 11 0\nstep 1\nstep 1\nstep 1\n\
          device\n",
         "OK\nOK\nOK\nOK\nOK\nOK\nOK\nOK\nOK\nSTOP turns 1 001000\nOK\nOK\nKW11 000300\n\
-         DL11 000300 000101 000300 keys 0 rx - tx -\nMMU 000000 001000\nREQ 1 0 1 1\nOK\nSTOP turns 1 003200\n\
+         DL11 000300 000101 000300 keys 0 rx - tx -\nRK11 000000 000000 000200 000000 000000 000000 due -\nDRIVE 0 empty\nDRIVE 1 empty\nMMU 000000 001000\nREQ 1 0 1 1\nOK\nSTOP turns 1 003200\n\
          STOP turns 1 003000\nSTOP turns 1 003100\nKW11 000300\n\
-         DL11 000300 000101 000300 keys 0 rx - tx -\nMMU 000000 001000\nREQ 0 0 0 0\n",
+         DL11 000300 000101 000300 keys 0 rx - tx -\nRK11 000000 000000 000200 000000 000000 000000 due -\nDRIVE 0 empty\nDRIVE 1 empty\nMMU 000000 001000\nREQ 0 0 0 0\n",
     ),
     (
         "a request that is not allowed any more is dropped",
@@ -167,7 +167,7 @@ static PRIORITIES: [Session; 5] = [
          deposit 1000 777\nstart 1000\ndeposit 777564 100\ndeposit 777564 0\n\
          deposit 777546 300\ndeposit 777546 200\nstep 1\ndevice\n",
         "OK\nOK\nOK\nOK\nOK\nOK\nOK\nOK\nOK\nOK\nSTOP turns 1 001000\nKW11 000200\n\
-         DL11 000000 000000 000200 keys 0 rx - tx -\nMMU 000000 001000\nREQ 0 0 0 0\n",
+         DL11 000000 000000 000200 keys 0 rx - tx -\nRK11 000000 000000 000200 000000 000000 000000 due -\nDRIVE 0 empty\nDRIVE 1 empty\nMMU 000000 001000\nREQ 0 0 0 0\n",
     ),
 ];
 
@@ -210,7 +210,7 @@ static WAITS: [Session; 8] = [
         "deposit 100 3000 300\ndeposit 60 3000 200\ndeposit 64 3000 200\ndeposit 1000 1 0\n\
          deposit 3000 2\nset 6 700\nstart 1000\nkey AB\ncontinue 1000\ndevice\n",
         "OK\nOK\nOK\nOK\nOK\nOK\nOK\nOK\nSTOP idle 1 001002\nKW11 000200\n\
-         DL11 000200 000101 000200 keys 1 rx - tx -\nMMU 000000 001000\nREQ 0 0 0 0\n",
+         DL11 000200 000101 000200 keys 1 rx - tx -\nRK11 000000 000000 000200 000000 000000 000000 due -\nDRIVE 0 empty\nDRIVE 1 empty\nMMU 000000 001000\nREQ 0 0 0 0\n",
     ),
     (
         "a request below the priority does not",

@@ -1,0 +1,111 @@
+// The commands on the drives.
+ghost use Rattle.std.specs.Prelude.{◌≡◌, ◌<◌, ◌≤◌, false, length, is_some, IfOk, IfErr, IfNone};
+ghost use Rattle.p11_overlay.specs.Drive.{image_bytes};
+ghost use Rattle.p11_rk11.specs.State.{drive_count, drive_of};
+ghost use Rattle.p11_panel.specs.Commands.{Acts};
+ghost use Rattle.p11_panel.specs.Disks.{mount_fault, Mounts, Unmounts, Saves, ShowsChanged};
+
+use crate::command::Command;
+use crate::panel::Panel;
+use p11_lines::{Answer, Bytes, Fault, Words};
+use std::alloc::Allocator;
+
+const DRIVES: u32 = 2;
+
+/// A pack's sectors, 4,872 of 512 bytes.
+const IMAGE_BYTES: usize = 2_494_464;
+
+impl<A: Allocator + Copy> Panel<A> {
+    /// Why MOUNT is refused, if it is.
+    #[tactic(auto, unfolding(crate::specs::Disks::mount_fault))]
+    fn mount_refusal(&self, drive: u32, image: &[u8]) -> Option<Fault>
+        ensures fault { result ≡ mount_fault drive image.now self.now }
+        ensures exists { IfNone result (drive < drive_count) }
+        ensures empty { IfNone result (is_some (drive_of self.now.bus.disk drive) ≡ false) }
+        ensures fits { IfNone result (length image.now ≤ image_bytes) }
+    {
+        if drive >= DRIVES {
+            return Some(Fault::NoDrive);
+        }
+        if self.machine.drive(drive as usize).is_some() {
+            return Some(Fault::DriveTaken);
+        }
+        if image.len() > IMAGE_BYTES {
+            return Some(Fault::ImageTooLong);
+        }
+        None
+    }
+
+    /// MOUNT.
+    pub(crate) fn mount(&mut self, alloc: A, drive: u32, image: &[u8], protect: bool) -> Answer<A>
+        ensures { Mounts drive image.now protect self.old result self.new }
+    {
+        if let Some(fault) = self.mount_refusal(drive, image) {
+            return Answer::Refused(fault);
+        }
+        match self.machine.mount(alloc, drive as usize, image, protect) {
+            Ok(()) => Answer::Done,
+            Err(_) => Answer::Refused(Fault::NoMemory),
+        }
+    }
+
+    /// UNMOUNT.
+    pub(crate) fn unmount(&mut self, drive: u32) -> Answer<A>
+        ensures { Unmounts drive self.old result self.new }
+    {
+        if drive >= DRIVES {
+            return Answer::Refused(Fault::NoDrive);
+        }
+        if self.machine.drive(drive as usize).is_none() {
+            return Answer::Refused(Fault::DriveEmpty);
+        }
+        if self.machine.busy(drive as usize) {
+            return Answer::Refused(Fault::DriveBusy);
+        }
+        self.machine.unmount(drive as usize);
+        Answer::Done
+    }
+
+    /// All that the pack on a drive holds, or why SAVE is refused.
+    pub(crate) fn image(&self, alloc: A, drive: u32) -> Result<Bytes<A>, Fault>
+        ensures ok { IfOk result (λ image. Saves {A = A} drive self.now (Answer.Image image) self.now) }
+        ensures err { IfErr result (λ fault. Saves {A = A} drive self.now (Answer.Refused fault) self.now) }
+    {
+        if drive >= DRIVES {
+            return Err(Fault::NoDrive);
+        }
+        let Some(pack) = self.machine.drive(drive as usize) else {
+            return Err(Fault::DriveEmpty);
+        };
+        match pack.image(alloc) {
+            Ok(image) => Ok(Bytes::from_vec(image)),
+            Err(_) => Err(Fault::NoMemory),
+        }
+    }
+
+    /// SAVE.
+    pub(crate) fn save(&self, alloc: A, drive: u32) -> Answer<A>
+        ensures { Saves drive self.now result self.now }
+    {
+        match self.image(alloc, drive) {
+            Ok(image) => Answer::Image(image),
+            Err(fault) => Answer::Refused(fault),
+        }
+    }
+
+    /// CHANGED.
+    pub(crate) fn changed(&self, alloc: A, drive: u32) -> Answer<A>
+        ensures { ShowsChanged drive self.now result self.now }
+    {
+        if drive >= DRIVES {
+            return Answer::Refused(Fault::NoDrive);
+        }
+        let Some(pack) = self.machine.drive(drive as usize) else {
+            return Answer::Refused(Fault::DriveEmpty);
+        };
+        match Vec::from_slice(alloc, pack.changed()) {
+            Ok(sectors) => Answer::Sectors(Words::from_vec(sectors)),
+            Err(_) => Answer::Refused(Fault::NoMemory),
+        }
+    }
+}
