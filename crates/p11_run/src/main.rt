@@ -1,18 +1,21 @@
 //! The program `p11`: a PDP-11/40 under an operator's script.
 //!
-//! `p11 [--memory K] [--lines N] SCRIPT` does the lines of the script, and writes their answers to standard output.
+//! `p11 [--memory K] [--lines N] SCRIPT` does the lines of the script, over the files that they name, and writes their
+//! answers to standard output.
 #![tactic(auto)]
 
 ghost use Rattle.std.specs.Prelude.{◌≡◌, ◌<◌};
 
 mod ending;
+mod file_store;
 mod settings;
 #[cfg(test)]
 mod tests;
 
 use crate::ending::{Cause, ending, ending_after};
+use crate::file_store::FileStore;
 use crate::settings::{Launch, settings};
-use p11_panel::{MemoryStore, Panel, SessionFault, session};
+use p11_panel::{Panel, SessionFault, session};
 use std::fs::File;
 use std::marker::Brand;
 use std::process::ExitCode;
@@ -68,14 +71,14 @@ fn run_script(rt: &HostRuntime, launch: &Launch<'_>) -> Result<(), Cause> {
     run_counted::<Brand>(rt, launch, Blank::new(1))
 }
 
-/// The same, with a store whose refusals are counted from a blank on.
+/// The same, with the files of the system, whose refusals are counted from a blank on.
 fn run_counted<L: Ledger>(rt: &HostRuntime, launch: &Launch<'_>, blank: Blank) -> Result<(), Cause>
     requires name { blank.name ≡ L.name }
     requires parts { blank.parts ≡ L.parts }
     requires some { 0 < blank.parts }
 {
     let mut panel = Panel::new(rt.alloc(), launch.config)?;
-    let mut store = MemoryStore::<L>::new(rt.alloc(), blank);
+    let mut store = FileStore::<L>::new(rt, blank);
     let Ok(mut script) = File::open(rt, launch.script) else {
         return Err(Cause::Session(SessionFault::Reading));
     };
