@@ -24,7 +24,8 @@ mount_fault drive image s =
 
 abbrev pub Mounts : {A : Type 0} → ℕ → List ℕ → Bool → State → Answer A → State → Type 0
 Mounts drive image protect s answer s' =
-    MatchOption (mount_fault drive image s) (FindsMemory answers.Done (mount_of drive image protect s) s answer s') (λ fault. IsRefused fault s answer s')
+    MatchOption (mount_fault drive image s) (FindsMemory answers.Done (mount_of drive image protect s) s answer s')
+    (λ fault. IsRefused fault s answer s')
 
 -- a command on the pack that is mounted on a drive
 abbrev pub OnPack : {A : Type 0} → ℕ → State → Answer A → State → (Contents → Type 0) → Type 0
@@ -35,7 +36,9 @@ OnPack drive s answer s' Does =
 -- UNMOUNT: not while the drive is busy
 abbrev pub Unmounts : {A : Type 0} → ℕ → State → Answer A → State → Type 0
 Unmounts drive s answer s' =
-    OnPack drive s answer s' (λ pack. MatchBool (is_busy drive s.bus.disk) (IsRefused DriveBusy s answer s') (IsDone answers.Done (unmount_of drive s) answer s'))
+    OnPack drive s answer s' (λ _.
+    MatchBool (is_busy drive s.bus.disk) (IsRefused DriveBusy s answer s')
+    (IsDone answers.Done (unmount_of drive s) answer s'))
 
 -- SAVE: all sectors of the pack
 abbrev pub Saves : {A : Type 0} → ℕ → State → Answer A → State → Type 0
@@ -43,4 +46,5 @@ Saves drive s answer s' = OnPack drive s answer s' (λ pack. FindsMemory (answer
 
 -- CHANGED: the sectors of the pack that were written since it was mounted
 abbrev pub ShowsChanged : {A : Type 0} → ℕ → State → Answer A → State → Type 0
-ShowsChanged drive s answer s' = OnPack drive s answer s' (λ pack. FindsMemory (answers.Sectors pack.changed) s s answer s')
+ShowsChanged drive s answer s' =
+    OnPack drive s answer s' (λ pack. FindsMemory (answers.Sectors pack.changed) s s answer s')

@@ -1,5 +1,5 @@
 -- Files in memory.
-use Rattle.std.specs.Prelude.{ℕ, List, [], ◌∷◌, Option, None, Some, if◌then◌else◌}
+use Rattle.std.specs.Prelude.{ℕ, List, [], ◌∷◌, ◌++◌, Option, None, Some, if◌then◌else◌}
 use Rattle.std.specs.Str.{bytes_eq}
 use Rattle.p11_panel.specs.Store.{StoreState}
 
@@ -23,3 +23,8 @@ pub record MemoryFiles : Type 0 where
 
 abbrev pub store_of : MemoryFiles → StoreState
 store_of memory = record { files = Some (bytes_under None memory.files); refusals = memory.refusals }
+
+-- one more file is put
+abbrev pub with_file : List ℕ → List ℕ → MemoryFiles → MemoryFiles
+with_file name bytes memory =
+    record memory { files = memory.files ++ (record { name = name; bytes = bytes }) ∷ [] }

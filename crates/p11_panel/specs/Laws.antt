@@ -11,7 +11,8 @@ use Rattle.p11_panel.specs.Commands.{Acts}
 use Rattle.p11_panel.specs.Play.{Plays}
 use Rattle.p11_panel.specs.Runs.{IsRun}
 
--- a run of n turns from s that want of memory doesn't stop makes one number of turns, for one reason, and comes to one state
+-- a run of n turns from s that want of memory doesn't stop makes one number of turns, for one reason, and comes to one
+-- state
 abbrev pub RunsHaveOneOutcome : Type 0
 RunsHaveOneOutcome =
     (idles : State → Bool) (n : ℕ) (s : State) (k l : ℕ) (reason other : StopReason) (s' t' : State)

@@ -23,8 +23,8 @@ unfoldable pub last_halted : ℕ → State → Bool
 last_halted zero s = false
 last_halted (suc k) s = is_halt (turn_of (after_turns k s)).1
 
--- Why a run of n turns from s stops when k are made, if it does. The first that holds: the last of them halted; n are made;
--- the machine idles, for a run that asks so.
+-- Why a run of n turns from s stops when k are made, if it does. The first that holds: the last of them halted; n are
+-- made; the machine idles, for a run that asks so.
 unfoldable pub stop_of : (State → Bool) → ℕ → ℕ → State → Option StopReason
 stop_of idles n k s =
     if last_halted k s then Some reasons.Halt
@@ -39,8 +39,8 @@ stops_idling asked s = asked && is_idle s
 abbrev pub IsMemory : StopReason → State → Type 0
 IsMemory reason s = (reason ≡ reasons.Memory) × (needs_memory s ≡ true)
 
--- A run of n turns from s makes k of them and comes to s'. The reason is the first that holds for k turns, and where none
--- does it is want of memory. For no fewer turns any held.
+-- A run of n turns from s makes k of them and comes to s'. The reason is the first that holds for k turns, and where
+-- none does it is want of memory. For no fewer turns any held.
 pub record IsRun (idles : State → Bool) (n : ℕ) (s : State) (k : ℕ) (reason : StopReason) (s' : State) : Type 0 where
   pub state : s' ≡ after_turns k s
   pub stops : MatchOption (stop_of idles n k s) (IsMemory reason s') (λ first. reason ≡ first)

@@ -1,5 +1,5 @@
--- The lines of a script: the pieces that LF (10) ends, without a CR (13) just before it, and at the end of the script the
--- piece after the last LF.
+-- The lines of a script: the pieces that LF (10) ends, without a CR (13) just before it, and at the end of the script
+-- the piece after the last LF.
 use Rattle.std.specs.Prelude.{ℕ, ◌-◌, nat_eq, List, [], ◌∷◌, ◌++◌, length, map, take, slice_index, if◌then◌else◌}
 
 -- bytes, cut at each LF

@@ -52,18 +52,23 @@ fault_of errors.NoMemory = NoMemory
 -- MOUNT of the bytes under a name, which are fetched before all else
 abbrev pub MountsFile : {A : Type 0} → ℕ → List ℕ → Bool → SessionState → Answer A → SessionState → Type 0
 MountsFile drive name protect s answer s' =
-    ((image : List ℕ) × Fetches s.store name image s'.store × Acts s.machine (commands.Mount drive image protect) answer s'.machine)
-    ⊎ ((error : StoreError) × FailsToFetch s.store error s'.store × (answer ≡ answers.Refused (fault_of error)) × (s'.machine ≡ s.machine))
+    ((image : List ℕ) × Fetches s.store name image s'.store
+    × Acts s.machine (commands.Mount drive image protect) answer s'.machine)
+    ⊎ ((error : StoreError) × FailsToFetch s.store error s'.store
+    × (answer ≡ answers.Refused (fault_of error)) × (s'.machine ≡ s.machine))
 
 -- what SAVE shows is put under a name
 abbrev pub Keeps : {A : Type 0} → List ℕ → List ℕ → StoreState → Answer A → StoreState → Type 0
-Keeps name image s answer s' = (Puts s name image s' × (answer ≡ answers.Done)) ⊎ (FailsToPut s name s' × (answer ≡ answers.Refused StoreFault))
+Keeps name image s answer s' =
+    (Puts s name image s' × (answer ≡ answers.Done)) ⊎ (FailsToPut s name s' × (answer ≡ answers.Refused StoreFault))
 
 -- SAVE under a name; where it is refused, nothing is put
 abbrev pub SavesFile : {A : Type 0} → ℕ → List ℕ → SessionState → Answer A → SessionState → Type 0
 SavesFile {A} drive name s answer s' = (s'.machine ≡ s.machine) × (
-    ((image : List ℕ) × Acts {A = A} s.machine (commands.Save drive) (answers.Image image) s.machine × Keeps name image s.store answer s'.store)
-    ⊎ ((fault : Fault) × Acts {A = A} s.machine (commands.Save drive) (answers.Refused fault) s.machine × (answer ≡ answers.Refused fault) × (s'.store ≡ s.store)))
+    ((image : List ℕ) × Acts {A = A} s.machine (commands.Save drive) (answers.Image image) s.machine
+    × Keeps name image s.store answer s'.store)
+    ⊎ ((fault : Fault) × Acts {A = A} s.machine (commands.Save drive) (answers.Refused fault) s.machine
+    × (answer ≡ answers.Refused fault) × (s'.store ≡ s.store)))
 
 -- what a line does that the grammar has
 unfoldable pub Obeys : {A : Type 0} → Line A → SessionState → Answer A → SessionState → Type 0
@@ -83,8 +88,8 @@ Obeys (lines.Continue turns) s answer s' = IsCommand (commands.Continue turns) s
 Obeys lines.Regs s answer s' = IsCommand commands.Regs s answer s'
 Obeys lines.Device s answer s' = IsCommand commands.Device s answer s'
 
--- What a line with an answer does, by what the grammar makes of it; nothing where it is no line. Reading a line that holds
--- a list may find no memory, before all else.
+-- What a line with an answer does, by what the grammar makes of it; nothing where it is no line. Reading a line that
+-- holds a list may find no memory, before all else.
 abbrev pub Asks : {A : Type 0} → Option (Line A) → SessionState → Answer A → SessionState → Type 0
 Asks None s answer s' = IsRefused BadLine s answer s'
 Asks (Some line) s answer s' = Obeys line s answer s' ⊎ (IsTrue (holds_list line) × IsRefused NoMemory s answer s')
@@ -98,8 +103,8 @@ LineDoes line s answer s' =
 abbrev pub texts_of : {A : Type 0} → List (Answer A) → List ℕ
 texts_of answers = flat_map text_of answers
 
--- What lines do one after another, by what a line does: a relation between a line, a state, the line's answer, if it has
--- one, and the next state.
+-- What lines do one after another, by what a line does: a relation between a line, a state, the line's answer, if it
+-- has one, and the next state.
 module _ {S A : Type 0} (Does : List ℕ → S → Option (Answer A) → S → Type 0) where
   -- lines, with all their answers
   unfoldable pub Runs : List (List ℕ) → S → List (Answer A) → S → Type 0
@@ -115,8 +120,8 @@ module _ {S A : Type 0} (Does : List ℕ → S → Option (Answer A) → S → T
     pub written : Appends old new (texts_of answers)
     pub counted : count ≡ length answers
 
-  -- Of these lines just those up to one are done, itself included. All earlier texts are written whole, and of its own text
-  -- a front that isn't all of it.
+  -- Of these lines just those up to one are done, itself included. All earlier texts are written whole, and of its own
+  -- text a front that isn't all of it.
   pub record Broke (lines : List (List ℕ)) (s : S) (old : Option (List ℕ)) (s' : S) (new : Option (List ℕ)) : Type 0 where
     pub earlier : List (List ℕ)
     pub line : List ℕ

@@ -58,7 +58,8 @@ shown_disk r =
 
 unfoldable pub shown_drive : Option on_bus.DriveShown → Option DriveShown
 shown_drive None = None
-shown_drive (Some d) = Some (record { protected = d.protected; cylinder = d.cylinder; changed = d.changed; due = d.due })
+shown_drive (Some d) =
+    Some (record { protected = d.protected; cylinder = d.cylinder; changed = d.changed; due = d.due })
 
 unfoldable pub shown_drives : List (Option on_bus.DriveShown) → List (Option DriveShown)
 shown_drives drives = shown_drive (slice_index_or drives 0 None) ∷ shown_drive (slice_index_or drives 1 None) ∷ []

@@ -142,7 +142,8 @@ pub(crate) fn do_line<A: Allocator + Copy, S: Store>(
     store: &mut S,
     line: &[u8],
 ) -> Option<Answer<A>>
-    ensures { LineDoes line.now (with_store panel.old (S.state store.old)) result (with_store panel.new (S.state store.new)) }
+    ensures { LineDoes line.now (with_store panel.old (S.state store.old)) result
+        (with_store panel.new (S.state store.new)) }
 {
     if line.len() > 4096 {
         return Some(ask(alloc, panel, store, line));

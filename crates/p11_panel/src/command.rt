@@ -46,8 +46,8 @@ pub enum Command<A: Allocator = Global> {
     Switches {
         word: u16,
     },
-    /// Set the register of a number (octal): 0 to 5, the kernel's stack pointer 6, PC 7, the user's stack pointer 10, or the
-    /// processor status word 11, of which bits 11:8 stay 0.
+    /// Set the register of a number (octal): 0 to 5, the kernel's stack pointer 6, PC 7, the user's stack pointer 10,
+    /// or the processor status word 11, of which bits 11:8 stay 0.
     Set {
         register: u16,
         value: u16,

@@ -1,6 +1,6 @@
 // A store of files in memory.
 ghost use Rattle.std.specs.Prelude.{◌≡◌, ◌+◌, ◌∷◌, ◌++◌, [], ◌<◌, None, Some, OnOk, OnErr, option_copied};
-ghost use Rattle.p11_panel.specs.Files.{bytes_under};
+ghost use Rattle.p11_panel.specs.Files.{bytes_under, with_file};
 
 use crate::store::{Refusals, Store, StoreError};
 use p11_lines::Bytes;
@@ -23,8 +23,8 @@ impl<A: Allocator> Model for File<A> {
     ghost view = { λ f. record { name = f.name; bytes = f.bytes } };
 }
 
-/// A store of files in memory, in which the last bytes under a name count. It refuses a name that it doesn't have, and what
-/// it has no memory for.
+/// A store of files in memory, in which the last bytes under a name count. It refuses a name that it doesn't have, and
+/// what it has no memory for.
 #[derive(Drop)]
 pub struct MemoryStore<L: Ledger, A: Allocator = Global> {
     files: Vec<File<A>, A>,
@@ -72,7 +72,7 @@ impl<L: Ledger, A: Allocator + Copy> MemoryStore<L, A> {
 
     /// Keeps one more file.
     fn add(&mut self, name: &[u8], bytes: &[u8]) -> Result<(), AllocError>
-        ensures ok { OnOk result (self.new ≡ record self.old { files = self.old.files ++ (record { name = name.now; bytes = bytes.now }) ∷ [] }) }
+        ensures ok { OnOk result (self.new ≡ with_file name.now bytes.now self.old) }
         ensures err { OnErr result (self.new ≡ self.old) }
     {
         let name = Bytes::from_vec(Vec::from_slice(self.alloc, name)?);

@@ -15,8 +15,8 @@ fn idles<A: Allocator>(machine: &Machine<A>, asked: bool) -> bool
     machine.idle()
 }
 
-/// Makes turns, up to so many, to the first that halts, to one that wants memory that was refused, or, where that is asked,
-/// until the machine idles: how many were made, and why no more.
+/// Makes turns, up to so many, to the first that halts, to one that wants memory that was refused, or, where that is
+/// asked, until the machine idles: how many were made, and why no more.
 pub(crate) fn run<A: Allocator>(
     machine: &mut Machine<A>,
     turns: u32,

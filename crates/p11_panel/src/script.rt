@@ -60,7 +60,8 @@ fn end_line<A: Allocator + Copy, S: Store>(
     store: &mut S,
     buffer: &LineBuffer,
 ) -> Option<Answer<A>>
-    ensures { (piece : List ℕ) → buffer.now ≡ kept piece → LineDoes (without_cr piece) (with_store panel.old (S.state store.old)) result (with_store panel.new (S.state store.new)) }
+    ensures { (piece : List ℕ) → buffer.now ≡ kept piece → LineDoes (without_cr piece)
+        (with_store panel.old (S.state store.old)) result (with_store panel.new (S.state store.new)) }
 {
     match buffer.get() {
         None => Some(Answer::Refused(Fault::BadLine)),
@@ -75,7 +76,8 @@ fn last_line<A: Allocator + Copy, S: Store>(
     store: &mut S,
     buffer: &LineBuffer,
 ) -> Option<Answer<A>>
-    ensures { (piece : List ℕ) → buffer.now ≡ kept piece → LineDoes piece (with_store panel.old (S.state store.old)) result (with_store panel.new (S.state store.new)) }
+    ensures { (piece : List ℕ) → buffer.now ≡ kept piece → LineDoes piece
+        (with_store panel.old (S.state store.old)) result (with_store panel.new (S.state store.new)) }
 {
     match buffer.get() {
         None => Some(Answer::Refused(Fault::BadLine)),
@@ -93,12 +95,15 @@ fn feed_byte<A: Allocator + Copy, S: Store, W: Write>(
     byte: u8,
 ) -> Result<u32, Broken>
     ensures ok { IfOk result (λ n. (read : List ℕ) (s : SessionState) (start : Option (List ℕ)) (count : ℕ)
-        → Stands (LineDoes {A = A}) read s start (with_store panel.old (S.state store.old)) (W.contents writer.old) count buffer.old
+        → Stands (LineDoes {A = A}) read s start (with_store panel.old (S.state store.old))
+        (W.contents writer.old) count buffer.old
         → Stands (LineDoes {A = A}) (read ++ byte ∷ []) s start
         (with_store panel.new (S.state store.new)) (W.contents writer.new) (count + n) buffer.new) }
     ensures err { OnErr result ((read : List ℕ) (s : SessionState) (start : Option (List ℕ)) (count : ℕ)
-        → Stands (LineDoes {A = A}) read s start (with_store panel.old (S.state store.old)) (W.contents writer.old) count buffer.old
-        → Broke (LineDoes {A = A}) (ended_lines (read ++ byte ∷ [])) s start (with_store panel.new (S.state store.new)) (W.contents writer.new)) }
+        → Stands (LineDoes {A = A}) read s start (with_store panel.old (S.state store.old))
+        (W.contents writer.old) count buffer.old
+        → Broke (LineDoes {A = A}) (ended_lines (read ++ byte ∷ [])) s start (with_store panel.new (S.state store.new))
+        (W.contents writer.new)) }
     ensures one { IfOk result (λ n. n ≤ 1) }
 {
     if byte != b'\n' {
@@ -125,12 +130,15 @@ fn feed<A: Allocator + Copy, S: Store, W: Write>(
 ) -> Result<u32, Broken>
     requires { length bytes.now ≤ 4096 }
     ensures ok { IfOk result (λ n. (read : List ℕ) (s : SessionState) (start : Option (List ℕ)) (count : ℕ)
-        → Stands (LineDoes {A = A}) read s start (with_store panel.old (S.state store.old)) (W.contents writer.old) count buffer.old
+        → Stands (LineDoes {A = A}) read s start (with_store panel.old (S.state store.old))
+        (W.contents writer.old) count buffer.old
         → Stands (LineDoes {A = A}) (read ++ bytes.now) s start
         (with_store panel.new (S.state store.new)) (W.contents writer.new) (count + n) buffer.new) }
     ensures err { OnErr result ((read : List ℕ) (s : SessionState) (start : Option (List ℕ)) (count : ℕ)
-        → Stands (LineDoes {A = A}) read s start (with_store panel.old (S.state store.old)) (W.contents writer.old) count buffer.old
-        → Broke (LineDoes {A = A}) (ended_lines (read ++ bytes.now)) s start (with_store panel.new (S.state store.new)) (W.contents writer.new)) }
+        → Stands (LineDoes {A = A}) read s start (with_store panel.old (S.state store.old))
+        (W.contents writer.old) count buffer.old
+        → Broke (LineDoes {A = A}) (ended_lines (read ++ bytes.now)) s start (with_store panel.new (S.state store.new))
+        (W.contents writer.new)) }
     ensures few { IfOk result (λ n. n ≤ length bytes.now) }
 {
     let mut answered = 0;
@@ -149,11 +157,15 @@ fn finish<A: Allocator + Copy, S: Store, W: Write>(
     buffer: &LineBuffer,
 ) -> Result<u32, Broken>
     ensures ok { IfOk result (λ n. (read : List ℕ) (s : SessionState) (start : Option (List ℕ)) (count : ℕ)
-        → Stands (LineDoes {A = A}) read s start (with_store panel.old (S.state store.old)) (W.contents writer.old) count buffer.now
-        → Did (LineDoes {A = A}) (script_lines read) s start (with_store panel.new (S.state store.new)) (W.contents writer.new) (count + n)) }
+        → Stands (LineDoes {A = A}) read s start (with_store panel.old (S.state store.old))
+        (W.contents writer.old) count buffer.now
+        → Did (LineDoes {A = A}) (script_lines read) s start (with_store panel.new (S.state store.new))
+        (W.contents writer.new) (count + n)) }
     ensures err { OnErr result ((read : List ℕ) (s : SessionState) (start : Option (List ℕ)) (count : ℕ)
-        → Stands (LineDoes {A = A}) read s start (with_store panel.old (S.state store.old)) (W.contents writer.old) count buffer.now
-        → Broke (LineDoes {A = A}) (script_lines read) s start (with_store panel.new (S.state store.new)) (W.contents writer.new)) }
+        → Stands (LineDoes {A = A}) read s start (with_store panel.old (S.state store.old))
+        (W.contents writer.old) count buffer.now
+        → Broke (LineDoes {A = A}) (script_lines read) s start (with_store panel.new (S.state store.new))
+        (W.contents writer.new)) }
     ensures one { IfOk result (λ n. n ≤ 1) }
 {
     let Some(answer) = last_line(alloc, panel, store, buffer) else {
@@ -166,16 +178,16 @@ fn finish<A: Allocator + Copy, S: Store, W: Write>(
 /// Does the lines of a script, one after another, and writes the text of each answer as soon as its command is done. It
 /// answers how many lines were answered.
 ///
-/// LF ends a line, and a CR just before it is dropped; the last line may have no LF. A blank line and a line whose first
-/// byte past spaces and tabs is `#` have no answer. A refused line is answered, and the session goes on. A line may have
-/// 4,096 bytes, and a longer one is `BadLine`. Buffers are fixed tables: what takes memory are the commands.
+/// LF ends a line, and a CR just before it is dropped; the last line may have no LF. A blank line and a line whose
+/// first byte past spaces and tabs is `#` have no answer. A refused line is answered, and the session goes on. A line
+/// may have 4,096 bytes, and a longer one is `BadLine`. Buffers are fixed tables: what takes memory are the commands.
 ///
 /// # Errors
 ///
-/// `Reading` where the reader failed, and `TooLong` where 1,000,000 reads of at most 4,096 bytes found no end: the lines
-/// that LF ended in what was read are done, and all their text is written. `Writing` where the writer failed or took
-/// nothing: just the lines up to one are done, itself included. All earlier texts are whole, and of its own text a front is
-/// written, but not all. LF has ended that line, or it is the last of a script that was read to its end.
+/// `Reading` where the reader failed, and `TooLong` where 1,000,000 reads of at most 4,096 bytes found no end: the
+/// lines that LF ended in what was read are done, and all their text is written. `Writing` where the writer failed or
+/// took nothing: just the lines up to one are done, itself included. All earlier texts are whole, and of its own text
+/// a front is written, but not all. LF has ended that line, or it is the last of a script that was read to its end.
 pub fn session<A: Allocator + Copy, S: Store, R: Read, W: Write>(
     alloc: A,
     panel: &mut Panel<A>,
@@ -187,26 +199,31 @@ pub fn session<A: Allocator + Copy, S: Store, R: Read, W: Write>(
     ensures ok { IfOk result (λ m. (read : List ℕ) × Consumes (R.remaining reader.old) (R.remaining reader.new) read
         × IsAtEnd (R.remaining reader.new) × (length read ≤ 999999 * 4096)
         × Did (LineDoes {A = A}) (script_lines read)
-        (with_store panel.old (S.state store.old)) (W.contents writer.old) (with_store panel.new (S.state store.new)) (W.contents writer.new) m) }
+        (with_store panel.old (S.state store.old)) (W.contents writer.old) (with_store panel.new (S.state store.new))
+        (W.contents writer.new) m) }
     // The lines that LF ended in what was read are done, and their text is written.
     ensures reading { IsErrOf result SessionFault.Reading → (read : List ℕ) × (m : ℕ)
         × Consumes (R.remaining reader.old) (R.remaining reader.new) read
         × Did (LineDoes {A = A}) (ended_lines read)
-        (with_store panel.old (S.state store.old)) (W.contents writer.old) (with_store panel.new (S.state store.new)) (W.contents writer.new) m }
+        (with_store panel.old (S.state store.old)) (W.contents writer.old) (with_store panel.new (S.state store.new))
+        (W.contents writer.new) m }
     // The same, of 1,000,000 reads, each of 1 to 4,096 bytes.
     ensures long { IsErrOf result SessionFault.TooLong → (read : List ℕ) × (m : ℕ)
         × Consumes (R.remaining reader.old) (R.remaining reader.new) read
         × (1000000 ≤ length read) × (length read ≤ 1000000 * 4096)
         × Did (LineDoes {A = A}) (ended_lines read)
-        (with_store panel.old (S.state store.old)) (W.contents writer.old) (with_store panel.new (S.state store.new)) (W.contents writer.new) m }
+        (with_store panel.old (S.state store.old)) (W.contents writer.old) (with_store panel.new (S.state store.new))
+        (W.contents writer.new) m }
     // Just the lines up to one are done, which LF ended, or which is the last of a script that was read to its end.
     ensures broke { IsErrOf result SessionFault.Writing → (read : List ℕ)
         × Consumes (R.remaining reader.old) (R.remaining reader.new) read
         × (Broke (LineDoes {A = A}) (ended_lines read)
-        (with_store panel.old (S.state store.old)) (W.contents writer.old) (with_store panel.new (S.state store.new)) (W.contents writer.new)
+        (with_store panel.old (S.state store.old)) (W.contents writer.old) (with_store panel.new (S.state store.new))
+        (W.contents writer.new)
         ⊎ (IsAtEnd (R.remaining reader.new)
         × Broke (LineDoes {A = A}) (script_lines read)
-        (with_store panel.old (S.state store.old)) (W.contents writer.old) (with_store panel.new (S.state store.new)) (W.contents writer.new))) }
+        (with_store panel.old (S.state store.old)) (W.contents writer.old) (with_store panel.new (S.state store.new))
+        (W.contents writer.new))) }
 {
     let mut buffer = LineBuffer::new();
     let mut chunk = [0; 4096];

@@ -36,8 +36,8 @@ impl<L: Ledger> Store for RefusingStore<L> {
     }
 }
 
-/// What a session over a script on a new machine writes, with these files in the store, of whose calls one may be refused;
-/// and what the store has under `out` then.
+/// What a session over a script on a new machine writes, with these files in the store, of whose calls one may be
+/// refused; and what the store has under `out` then.
 pub(crate) fn run_with_files(
     alloc: Global,
     files: &[(&[u8], &[u8])],
