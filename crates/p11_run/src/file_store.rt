@@ -108,8 +108,8 @@ fn read_more<A: Allocator>(file: &mut File, bytes: &mut Vec<u8, A>) -> Result<bo
     }
 }
 
-/// Leaves these bytes under a name: they are written to a new file beside it, which then takes its place. So what was there
-/// stays whole where they can't be written. Only a file is replaced, and no folder or device.
+/// Leaves these bytes under a name: they are written to a new file beside it, which then takes its place. So what was
+/// there stays whole where they can't be written. Only a file is replaced, and no folder or device.
 fn replace_file(rt: &HostRuntime, name: &[u8], bytes: &[u8]) -> io::Result<()> {
     let Ok(path) = str::from_utf8(name) else {
         return Err(io::Error::from(ErrorKind::InvalidInput));

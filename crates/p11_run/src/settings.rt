@@ -77,8 +77,8 @@ fn sizes(memory: Option<u32>, lines: Option<u32>) -> Result<Config, Cause>
     }
 }
 
-/// Reads the command line, whose first word is the program's name. The sizes are those that `Config::new` makes of the two
-/// numbers, 28 and 1,024 where they aren't given.
+/// Reads the command line, whose first word is the program's name. The sizes are those that `Config::new` makes of the
+/// two numbers, 28 and 1,024 where they aren't given.
 pub fn settings<'a>(alloc: Global, words: &'a [String]) -> Result<Launch<'a>, Cause>
     ensures { IfOk result (λ launch. (memory lines : Option ℕ) × AsksFor memory lines launch.config) }
 {

@@ -9,12 +9,15 @@ static KEYS: [Session; 11] = [
         "key abcdefghijklmnopqrstuvwxyzabcdefghijklmnopqrstuvwxyzabcdefghijkl\nkey a\n\
          device\n",
         "OK\n? 8 KeysFull\nKW11 000200\nDL11 000000 000000 000200 keys 64 rx 1 tx -\n\
-         RK11 000000 000000 000200 000000 000000 000000 due -\nDRIVE 0 empty\nDRIVE 1 empty\nMMU 000000 000000\nREQ 0 0 0 0\n",
+         RK11 000000 000000 000200 000000 000000 000000 due -\nDRIVE 0 empty\nDRIVE 1 empty\n\
+         MMU 000000 000000\nREQ 0 0 0 0\n",
     ),
     (
         "a text of too many keys is refused as a whole",
         "key abcdefghijklmnopqrstuvwxyzabcdefghijklmnopqrstuvwxyzabcdefghijklm\ndevice\n",
-        "? 8 KeysFull\nKW11 000200\nDL11 000000 000000 000200 keys 0 rx - tx -\nRK11 000000 000000 000200 000000 000000 000000 due -\nDRIVE 0 empty\nDRIVE 1 empty\nMMU 000000 000000\nREQ 0 0 0 0\n",
+        "? 8 KeysFull\nKW11 000200\nDL11 000000 000000 000200 keys 0 rx - tx -\n\
+         RK11 000000 000000 000200 000000 000000 000000 due -\nDRIVE 0 empty\nDRIVE 1 empty\nMMU 000000 000000\n\
+         REQ 0 0 0 0\n",
     ),
     (
         "two keys, 64 turns apart",
@@ -43,7 +46,8 @@ static KEYS: [Session; 11] = [
         "EXAM 777564 000200\nEXAM 777546 000200\nEXAM 777560 000000\n? 5 OddAddress\n\
          ? 6 NoAnswer\n? 11 BadRegister\n? 10 TooMany\nEXAM 001000 000000\n\
          EXAM 001002 000000\nKW11 000200\nDL11 000000 000000 000200 keys 0 rx - tx -\n\
-         RK11 000000 000000 000200 000000 000000 000000 due -\nDRIVE 0 empty\nDRIVE 1 empty\nMMU 000000 000000\nREQ 0 0 0 0\n",
+         RK11 000000 000000 000200 000000 000000 000000 due -\nDRIVE 0 empty\nDRIVE 1 empty\n\
+         MMU 000000 000000\nREQ 0 0 0 0\n",
     ),
     (
         "the switches show what the operator has set",
@@ -62,13 +66,15 @@ static KEYS: [Session; 11] = [
         "a byte written to the high half of the transmitter buffer sends nothing",
         "deposit 1000 112737 101 177567 777\nstart 1000\nstep 1\ndevice\nstep 100\n",
         "OK\nOK\nSTOP turns 1 001006\nKW11 000200\n\
-         DL11 000000 000000 000200 keys 0 rx - tx -\nRK11 000000 000000 000200 000000 000000 000000 due -\nDRIVE 0 empty\nDRIVE 1 empty\nMMU 000000 001000\nREQ 0 0 0 0\nSTOP turns 100 001006\n",
+         DL11 000000 000000 000200 keys 0 rx - tx -\nRK11 000000 000000 000200 000000 000000 000000 due -\n\
+         DRIVE 0 empty\nDRIVE 1 empty\nMMU 000000 001000\nREQ 0 0 0 0\nSTOP turns 100 001006\n",
     ),
     (
         "a byte written to the transmitter buffer is sent",
         "deposit 1000 112737 101 177566 777\nstart 1000\nstep 1\ndevice\nstep 100\n",
         "OK\nOK\nSTOP turns 1 001006\nKW11 000200\n\
-         DL11 000000 000000 000000 keys 0 rx - tx 65\nRK11 000000 000000 000200 000000 000000 000000 due -\nDRIVE 0 empty\nDRIVE 1 empty\nMMU 000000 001000\nREQ 0 0 0 0\nTTY A\n\
+         DL11 000000 000000 000000 keys 0 rx - tx 65\nRK11 000000 000000 000200 000000 000000 000000 due -\n\
+         DRIVE 0 empty\nDRIVE 1 empty\nMMU 000000 001000\nREQ 0 0 0 0\nTTY A\n\
          STOP turns 100 001006\n",
     ),
     (
@@ -77,9 +83,11 @@ static KEYS: [Session; 11] = [
          deposit 777564 100\ndeposit 777566 132\ndeposit 777546 100\ndevice\nset 7 1002\n\
          set 11 340\nstep 1\ndevice\nstep 100\n",
         "OK\nOK\nOK\nSTOP turns 1 001000\nOK\nOK\nOK\nOK\nKW11 000100\n\
-         DL11 000300 000101 000100 keys 2 rx - tx 65\nRK11 000000 000000 000200 000000 000000 000000 due -\nDRIVE 0 empty\nDRIVE 1 empty\nMMU 000000 001000\nREQ 0 0 1 1\nOK\nOK\n\
+         DL11 000300 000101 000100 keys 2 rx - tx 65\nRK11 000000 000000 000200 000000 000000 000000 due -\n\
+         DRIVE 0 empty\nDRIVE 1 empty\nMMU 000000 001000\nREQ 0 0 1 1\nOK\nOK\n\
          STOP turns 1 001004\nKW11 000200\nDL11 000000 000000 000200 keys 2 rx 65 tx -\n\
-         RK11 000000 000000 000200 000000 000000 000000 due -\nDRIVE 0 empty\nDRIVE 1 empty\nMMU 000000 001002\nREQ 0 0 0 0\nSTOP turns 100 001004\n",
+         RK11 000000 000000 000200 000000 000000 000000 due -\nDRIVE 0 empty\nDRIVE 1 empty\n\
+         MMU 000000 001002\nREQ 0 0 0 0\nSTOP turns 100 001004\n",
     ),
 ];
 
@@ -92,7 +100,8 @@ static ECHO: [Session; 3] = [
          step 5000\ndevice\n",
         "OK\nOK\nOK\nTTY abcdefghijklmnopqrstuvwxyzABCDEFGHIJKLMNOPQRSTUVWXYZ0123456789+/\n\
          STOP turns 5000 001000\nKW11 000200\nDL11 000000 000057 000200 keys 0 rx - tx -\n\
-         RK11 000000 000000 000200 000000 000000 000000 due -\nDRIVE 0 empty\nDRIVE 1 empty\nMMU 000000 001004\nREQ 0 0 0 0\n",
+         RK11 000000 000000 000200 000000 000000 000000 due -\nDRIVE 0 empty\nDRIVE 1 empty\n\
+         MMU 000000 001004\nREQ 0 0 0 0\n",
     ),
     (
         "64 keys echoed by interrupts",
@@ -103,7 +112,8 @@ static ECHO: [Session; 3] = [
         "OK\nOK\nOK\nOK\nOK\nOK\n\
          TTY abcdefghijklmnopqrstuvwxyzABCDEFGHIJKLMNOPQRSTUVWXYZ0123456789+/\n\
          STOP idle 4262 001010\nKW11 000200\nDL11 000100 000057 000200 keys 0 rx - tx -\n\
-         RK11 000000 000000 000200 000000 000000 000000 due -\nDRIVE 0 empty\nDRIVE 1 empty\nMMU 000000 001006\nREQ 0 0 0 0\n",
+         RK11 000000 000000 000200 000000 000000 000000 due -\nDRIVE 0 empty\nDRIVE 1 empty\n\
+         MMU 000000 001006\nREQ 0 0 0 0\n",
     ),
     (
         "a text typed by interrupts of the transmitter",
@@ -111,7 +121,8 @@ static ECHO: [Session; 3] = [
          deposit 3000 44510 41\ndeposit 1000 12701 3000 12737 100 177564 1 776\nset 6 700\n\
          start 1000\ncontinue 100000\ndevice\n",
         "OK\nOK\nOK\nOK\nOK\nOK\nTTY HI!\nSTOP idle 210 001014\nKW11 000200\n\
-         DL11 000000 000000 000200 keys 0 rx - tx -\nRK11 000000 000000 000200 000000 000000 000000 due -\nDRIVE 0 empty\nDRIVE 1 empty\nMMU 000000 001012\nREQ 0 0 0 0\n",
+         DL11 000000 000000 000200 keys 0 rx - tx -\nRK11 000000 000000 000200 000000 000000 000000 due -\n\
+         DRIVE 0 empty\nDRIVE 1 empty\nMMU 000000 001012\nREQ 0 0 0 0\n",
     ),
 ];
 
@@ -126,7 +137,8 @@ static PRIORITIES: [Session; 5] = [
         "OK\nOK\nOK\nOK\nOK\nOK\nOK\nOK\nOK\nSTOP turns 1 001000\nOK\nOK\n\
          STOP turns 1 001000\nOK\nOK\nSTOP turns 1 003200\nEXAM 000674 001000\n\
          EXAM 000676 000240\nKW11 000300\nDL11 000000 000000 000200 keys 0 rx - tx -\n\
-         RK11 000000 000000 000200 000000 000000 000000 due -\nDRIVE 0 empty\nDRIVE 1 empty\nMMU 000000 001000\nREQ 0 0 0 0\n",
+         RK11 000000 000000 000200 000000 000000 000000 due -\nDRIVE 0 empty\nDRIVE 1 empty\n\
+         MMU 000000 001000\nREQ 0 0 0 0\n",
     ),
     (
         "the receiver at level 4",
@@ -137,7 +149,8 @@ static PRIORITIES: [Session; 5] = [
         "OK\nOK\nOK\nOK\nOK\nOK\nOK\nOK\nOK\nSTOP turns 1 001000\nOK\nOK\n\
          STOP turns 1 001000\nOK\nOK\nSTOP turns 1 001000\nOK\nOK\nSTOP turns 1 001000\nOK\n\
          OK\nSTOP turns 1 003000\nEXAM 000674 001000\nEXAM 000676 000140\nKW11 000200\n\
-         DL11 000300 000101 000200 keys 0 rx - tx -\nRK11 000000 000000 000200 000000 000000 000000 due -\nDRIVE 0 empty\nDRIVE 1 empty\nMMU 000000 001000\nREQ 0 0 0 0\n",
+         DL11 000300 000101 000200 keys 0 rx - tx -\nRK11 000000 000000 000200 000000 000000 000000 due -\n\
+         DRIVE 0 empty\nDRIVE 1 empty\nMMU 000000 001000\nREQ 0 0 0 0\n",
     ),
     (
         "the transmitter at level 4",
@@ -148,7 +161,8 @@ static PRIORITIES: [Session; 5] = [
         "OK\nOK\nOK\nOK\nOK\nOK\nOK\nOK\nOK\nSTOP turns 1 001000\nOK\nOK\n\
          STOP turns 1 001000\nOK\nOK\nSTOP turns 1 001000\nOK\nOK\nSTOP turns 1 003100\n\
          EXAM 000674 001000\nEXAM 000676 000140\nKW11 000200\n\
-         DL11 000000 000000 000300 keys 0 rx - tx -\nRK11 000000 000000 000200 000000 000000 000000 due -\nDRIVE 0 empty\nDRIVE 1 empty\nMMU 000000 001000\nREQ 0 0 0 0\n",
+         DL11 000000 000000 000300 keys 0 rx - tx -\nRK11 000000 000000 000200 000000 000000 000000 due -\n\
+         DRIVE 0 empty\nDRIVE 1 empty\nMMU 000000 001000\nREQ 0 0 0 0\n",
     ),
     (
         "the clock, then the receiver, then the transmitter",
@@ -157,9 +171,11 @@ static PRIORITIES: [Session; 5] = [
          deposit 777564 100\ndeposit 777546 300\ndevice\nset 11 0\nstep 1\nstep 1\nstep 1\n\
          device\n",
         "OK\nOK\nOK\nOK\nOK\nOK\nOK\nOK\nOK\nSTOP turns 1 001000\nOK\nOK\nKW11 000300\n\
-         DL11 000300 000101 000300 keys 0 rx - tx -\nRK11 000000 000000 000200 000000 000000 000000 due -\nDRIVE 0 empty\nDRIVE 1 empty\nMMU 000000 001000\nREQ 1 0 1 1\nOK\nSTOP turns 1 003200\n\
+         DL11 000300 000101 000300 keys 0 rx - tx -\nRK11 000000 000000 000200 000000 000000 000000 due -\n\
+         DRIVE 0 empty\nDRIVE 1 empty\nMMU 000000 001000\nREQ 1 0 1 1\nOK\nSTOP turns 1 003200\n\
          STOP turns 1 003000\nSTOP turns 1 003100\nKW11 000300\n\
-         DL11 000300 000101 000300 keys 0 rx - tx -\nRK11 000000 000000 000200 000000 000000 000000 due -\nDRIVE 0 empty\nDRIVE 1 empty\nMMU 000000 001000\nREQ 0 0 0 0\n",
+         DL11 000300 000101 000300 keys 0 rx - tx -\nRK11 000000 000000 000200 000000 000000 000000 due -\n\
+         DRIVE 0 empty\nDRIVE 1 empty\nMMU 000000 001000\nREQ 0 0 0 0\n",
     ),
     (
         "a request that is not allowed any more is dropped",
@@ -167,7 +183,8 @@ static PRIORITIES: [Session; 5] = [
          deposit 1000 777\nstart 1000\ndeposit 777564 100\ndeposit 777564 0\n\
          deposit 777546 300\ndeposit 777546 200\nstep 1\ndevice\n",
         "OK\nOK\nOK\nOK\nOK\nOK\nOK\nOK\nOK\nOK\nSTOP turns 1 001000\nKW11 000200\n\
-         DL11 000000 000000 000200 keys 0 rx - tx -\nRK11 000000 000000 000200 000000 000000 000000 due -\nDRIVE 0 empty\nDRIVE 1 empty\nMMU 000000 001000\nREQ 0 0 0 0\n",
+         DL11 000000 000000 000200 keys 0 rx - tx -\nRK11 000000 000000 000200 000000 000000 000000 due -\n\
+         DRIVE 0 empty\nDRIVE 1 empty\nMMU 000000 001000\nREQ 0 0 0 0\n",
     ),
 ];
 
@@ -210,7 +227,8 @@ static WAITS: [Session; 8] = [
         "deposit 100 3000 300\ndeposit 60 3000 200\ndeposit 64 3000 200\ndeposit 1000 1 0\n\
          deposit 3000 2\nset 6 700\nstart 1000\nkey AB\ncontinue 1000\ndevice\n",
         "OK\nOK\nOK\nOK\nOK\nOK\nOK\nOK\nSTOP idle 1 001002\nKW11 000200\n\
-         DL11 000200 000101 000200 keys 1 rx - tx -\nRK11 000000 000000 000200 000000 000000 000000 due -\nDRIVE 0 empty\nDRIVE 1 empty\nMMU 000000 001000\nREQ 0 0 0 0\n",
+         DL11 000200 000101 000200 keys 1 rx - tx -\nRK11 000000 000000 000200 000000 000000 000000 due -\n\
+         DRIVE 0 empty\nDRIVE 1 empty\nMMU 000000 001000\nREQ 0 0 0 0\n",
     ),
     (
         "a request below the priority does not",
@@ -238,10 +256,14 @@ static BYTES: [Session; 4] = [
         "bytes 000 to 077 as keys and as typed characters",
         "deposit 1000 105737 177560 100375 113700 177562 105737 177564 100375 110037 177566 765\n\
          start 1000\n\
-         key \\000\\001\\002\\003\\004\\005\\006\\007\\010\\011\\012\\013\\014\\015\\016\\017\\020\\021\\022\\023\\024\\025\\026\\027\\030\\031\\032\\033\\034\\035\\036\\037\\040!\"#$%&'()*+,-./0123456789:;<=>?\n\
+         key \\000\\001\\002\\003\\004\\005\\006\\007\\010\\011\\012\\013\\014\\015\\016\\017\\020\\021\
+         \\022\\023\\024\\025\\026\\027\\030\\031\\032\\033\\034\\035\\036\\037\
+         \\040!\"#$%&'()*+,-./0123456789:;<=>?\n\
          step 5000\n",
         "OK\nOK\nOK\n\
-         TTY \\000\\001\\002\\003\\004\\005\\006\\007\\010\\011\\012\\013\\014\\015\\016\\017\\020\\021\\022\\023\\024\\025\\026\\027\\030\\031\\032\\033\\034\\035\\036\\037\\040!\"#$%&'()*+,-./0123456789:;<=>?\n\
+         TTY \\000\\001\\002\\003\\004\\005\\006\\007\\010\\011\\012\\013\\014\\015\\016\\017\\020\\021\
+         \\022\\023\\024\\025\\026\\027\\030\\031\\032\\033\\034\\035\\036\\037\
+         \\040!\"#$%&'()*+,-./0123456789:;<=>?\n\
          STOP turns 5000 001000\n",
     ),
     (
@@ -258,20 +280,32 @@ static BYTES: [Session; 4] = [
         "bytes 200 to 277 as keys and as typed characters",
         "deposit 1000 105737 177560 100375 113700 177562 105737 177564 100375 110037 177566 765\n\
          start 1000\n\
-         key \\200\\201\\202\\203\\204\\205\\206\\207\\210\\211\\212\\213\\214\\215\\216\\217\\220\\221\\222\\223\\224\\225\\226\\227\\230\\231\\232\\233\\234\\235\\236\\237\\240\\241\\242\\243\\244\\245\\246\\247\\250\\251\\252\\253\\254\\255\\256\\257\\260\\261\\262\\263\\264\\265\\266\\267\\270\\271\\272\\273\\274\\275\\276\\277\n\
+         key \\200\\201\\202\\203\\204\\205\\206\\207\\210\\211\\212\\213\\214\\215\\216\\217\\220\\221\
+         \\222\\223\\224\\225\\226\\227\\230\\231\\232\\233\\234\\235\\236\\237\\240\\241\\242\\243\\244\
+         \\245\\246\\247\\250\\251\\252\\253\\254\\255\\256\\257\\260\\261\\262\\263\\264\\265\\266\\267\
+         \\270\\271\\272\\273\\274\\275\\276\\277\n\
          step 5000\n",
         "OK\nOK\nOK\n\
-         TTY \\200\\201\\202\\203\\204\\205\\206\\207\\210\\211\\212\\213\\214\\215\\216\\217\\220\\221\\222\\223\\224\\225\\226\\227\\230\\231\\232\\233\\234\\235\\236\\237\\240\\241\\242\\243\\244\\245\\246\\247\\250\\251\\252\\253\\254\\255\\256\\257\\260\\261\\262\\263\\264\\265\\266\\267\\270\\271\\272\\273\\274\\275\\276\\277\n\
+         TTY \\200\\201\\202\\203\\204\\205\\206\\207\\210\\211\\212\\213\\214\\215\\216\\217\\220\\221\
+         \\222\\223\\224\\225\\226\\227\\230\\231\\232\\233\\234\\235\\236\\237\\240\\241\\242\\243\\244\
+         \\245\\246\\247\\250\\251\\252\\253\\254\\255\\256\\257\\260\\261\\262\\263\\264\\265\\266\\267\
+         \\270\\271\\272\\273\\274\\275\\276\\277\n\
          STOP turns 5000 001000\n",
     ),
     (
         "bytes 300 to 377 as keys and as typed characters",
         "deposit 1000 105737 177560 100375 113700 177562 105737 177564 100375 110037 177566 765\n\
          start 1000\n\
-         key \\300\\301\\302\\303\\304\\305\\306\\307\\310\\311\\312\\313\\314\\315\\316\\317\\320\\321\\322\\323\\324\\325\\326\\327\\330\\331\\332\\333\\334\\335\\336\\337\\340\\341\\342\\343\\344\\345\\346\\347\\350\\351\\352\\353\\354\\355\\356\\357\\360\\361\\362\\363\\364\\365\\366\\367\\370\\371\\372\\373\\374\\375\\376\\377\n\
+         key \\300\\301\\302\\303\\304\\305\\306\\307\\310\\311\\312\\313\\314\\315\\316\\317\\320\\321\
+         \\322\\323\\324\\325\\326\\327\\330\\331\\332\\333\\334\\335\\336\\337\\340\\341\\342\\343\\344\
+         \\345\\346\\347\\350\\351\\352\\353\\354\\355\\356\\357\\360\\361\\362\\363\\364\\365\\366\\367\
+         \\370\\371\\372\\373\\374\\375\\376\\377\n\
          step 5000\n",
         "OK\nOK\nOK\n\
-         TTY \\300\\301\\302\\303\\304\\305\\306\\307\\310\\311\\312\\313\\314\\315\\316\\317\\320\\321\\322\\323\\324\\325\\326\\327\\330\\331\\332\\333\\334\\335\\336\\337\\340\\341\\342\\343\\344\\345\\346\\347\\350\\351\\352\\353\\354\\355\\356\\357\\360\\361\\362\\363\\364\\365\\366\\367\\370\\371\\372\\373\\374\\375\\376\\377\n\
+         TTY \\300\\301\\302\\303\\304\\305\\306\\307\\310\\311\\312\\313\\314\\315\\316\\317\\320\\321\
+         \\322\\323\\324\\325\\326\\327\\330\\331\\332\\333\\334\\335\\336\\337\\340\\341\\342\\343\\344\
+         \\345\\346\\347\\350\\351\\352\\353\\354\\355\\356\\357\\360\\361\\362\\363\\364\\365\\366\\367\
+         \\370\\371\\372\\373\\374\\375\\376\\377\n\
          STOP turns 5000 001000\n",
     ),
 ];
