@@ -5,7 +5,9 @@ use Rattle.p11_dl11.specs.LineState.{LineState}
 use Rattle.p11_dl11.specs.LineEvents.{line_after_init, line_after_key}
 use Rattle.p11_dl11.specs.declared.line.KeysFull.{KeysFull}
 use Rattle.p11_overlay.specs.Drive.{Contents}
+use Rattle.p11_rk11.specs.Memory.{word_at, stored}
 use Rattle.p11_rk11.specs.State.{disk_after_init, disk_after_mount, disk_after_unmount}
+use Rattle.p11_unibus.specs.Bytes.{even, with_byte}
 use Rattle.p11_unibus.specs.State.{BusState}
 
 -- INIT: each device as its own crate says; memory, switches and typed characters stay
@@ -39,3 +41,8 @@ bus_after_mount n contents b = record b { disk = disk_after_mount n contents b.d
 -- the pack of drive n is taken off
 unfoldable pub bus_after_unmount : ℕ → BusState → BusState
 bus_after_unmount n b = record b { disk = disk_after_unmount n b.disk }
+
+-- a byte of memory is replaced
+unfoldable pub bus_after_byte : ℕ → ℕ → BusState → BusState
+bus_after_byte address byte b =
+    record b { memory = stored b.memory (even address) (with_byte address byte (word_at b.memory (even address))) }
