@@ -8,6 +8,8 @@ use Rattle.p11_cpu.specs.declared.registers.ConsoleRegister.{ConsoleRegister}
 use Rattle.p11_cpu.specs.declared.registers.ConsoleRegister.TheVariants.{R0, R1, R2, R3, R4, R5, KernelSp, Pc, UserSp, Status}
 use Rattle.p11_cpu.specs.State.{Processor, HardwareState, State, hardware_of, with_hardware}
 use Rattle.p11_cpu.specs.Registers.{with_register}
+use Rattle.p11_unibus.specs.Bytes.{has_byte}
+use Rattle.p11_unibus.specs.Events.{bus_after_byte}
 use Rattle.p11_unibus.specs.State.{new_bus}
 use Rattle.p11_cpu.specs.References.{see, change, after_read, answers}
 use Rattle.p11_cpu.specs.ProcessorControl.{initialized}
@@ -98,3 +100,11 @@ started pc h =
 
 unfoldable pub start_of : ℕ → State → State
 start_of pc s = with_hardware (started pc (hardware_of s)) s
+
+-- whether memory holds the byte at a bus address
+unfoldable pub holds_byte_of : ℕ → State → Bool
+holds_byte_of address s = has_byte s.bus.memory address
+
+-- a byte of memory is replaced
+unfoldable pub put_byte_of : ℕ → ℕ → State → State
+put_byte_of address byte s = record s { bus = bus_after_byte address byte s.bus }
