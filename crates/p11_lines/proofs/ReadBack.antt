@@ -6,8 +6,8 @@ use Rattle.std.proofs.lemmas.Bool.{not-true, and_parts, ltb-true}
 use Rattle.std.proofs.lemmas.Bool.Decides.{nat_tests}
 use Rattle.std.proofs.lemmas.List.Sums.{AllPass-from_list_all}
 use Rattle.p11_lines.specs.declared.line.Line.{Line}
-use Rattle.p11_lines.specs.declared.line.Line.TheVariants.{Mount, Unmount, Save, Changed, Examine, Deposit, Start, Key, Tick, Switches, Set, Step, Continue, Regs, Device}
-use Rattle.p11_lines.specs.Grammar.{is_blank, words_of, address_from, word_from, all_words_from, examine_from, deposit_from, start_from, key_from, plain_from, switches_from, set_from, turns_from, line_from_words, line_from, is_graphic, is_name, name_from, access_text, access_from, mount_from, save_from, drive_from, disk_line_from}
+use Rattle.p11_lines.specs.declared.line.Line.TheVariants.{Mount, Unmount, Save, Changed, Load, Examine, Deposit, Start, Key, Tick, Switches, Set, Step, Continue, Regs, Device}
+use Rattle.p11_lines.specs.Grammar.{is_blank, words_of, address_from, word_from, all_words_from, examine_from, deposit_from, start_from, key_from, plain_from, switches_from, set_from, turns_from, line_from_words, line_from, is_graphic, is_name, name_from, access_text, access_from, mount_from, save_from, load_from, drive_from, disk_line_from}
 use Rattle.p11_lines.specs.LineText.{octal, line_text, FitsCount, FitsGrammar}
 use Rattle.p11_lines.specs.Escapes.{escaped}
 use Rattle.p11_lines.proofs.Escapes.{bytes_from-escaped, graphs_of-escaped, some-escaped}
@@ -144,6 +144,11 @@ words_of-save drive name small named =
     ∙ ap (λ (ws : List (List ℕ)). codes "save" ∷ ws) (words_of-octal_more drive name (omega arith)
     ∙ ap (λ (ws : List (List ℕ)). octal drive ∷ ws) (words_of-last name (graphs_of-name name named) (some_of-name name named)))
 
+words_of-load : (name : List ℕ) → is_name name ≡ true → words_of (codes "load " ++ name) ≡ codes "load" ∷ name ∷ []
+words_of-load name named =
+    words_of-word (codes "load") 32 name (graphs_from-test (codes "load") refl) (omega arith) refl
+    ∙ ap (λ (ws : List (List ℕ)). codes "load" ∷ ws) (words_of-last name (graphs_of-name name named) (some_of-name name named))
+
 words_of-unmount : (drive : ℕ) → drive ≤ 65535 → words_of (codes "unmount " ++ octal drive) ≡ codes "unmount" ∷ octal drive ∷ []
 words_of-unmount drive small =
     words_of-word (codes "unmount") 32 (octal drive) (graphs_from-test (codes "unmount") refl) (omega arith) refl
@@ -216,6 +221,10 @@ line_from_words-save : {A : Type 0} (drive : ℕ) (name : List ℕ) → drive �
 unfolding line_from_words disk_line_from save_from
 line_from_words-save drive name small named = rw (word_from-octal drive small, name_from-name name named) refl
 
+line_from_words-load : {A : Type 0} (name : List ℕ) → is_name name ≡ true → line_from_words {A = A} (codes "load" ∷ name ∷ []) ≡ Some (Load name)
+unfolding line_from_words load_from
+line_from_words-load name named = rw (name_from-name name named) refl
+
 line_from_words-unmount : {A : Type 0} (drive : ℕ) → drive ≤ 65535 → line_from_words {A = A} (codes "unmount" ∷ octal drive ∷ []) ≡ Some (Unmount drive)
 unfolding line_from_words disk_line_from drive_from
 line_from_words-unmount drive small = rw (word_from-octal drive small) refl
@@ -242,6 +251,7 @@ line_from-line_text (Mount drive name protect) fits short = line_from-words _ _ 
 line_from-line_text (Unmount drive) fits short = line_from-words _ _ _ short (words_of-unmount drive fits) (line_from_words-unmount drive fits)
 line_from-line_text (Save drive name) fits short = line_from-words _ _ _ short (words_of-save drive name fits.0 fits.1) (line_from_words-save drive name fits.0 fits.1)
 line_from-line_text (Changed drive) fits short = line_from-words _ _ _ short (words_of-changed drive fits) (line_from_words-changed drive fits)
+line_from-line_text (Load name) fits short = line_from-words _ _ _ short (words_of-load name fits) (line_from_words-load name fits)
 line_from-line_text (Examine address count) fits short = line_from-words _ _ _ short (words_of-examine address count fits.0 fits.1) (line_from_words-examine address count fits.0 fits.1)
 line_from-line_text (Deposit address []) fits short = absurd (omega (arith, fits.1))
 line_from-line_text (Deposit address (word ∷ words)) fits short = line_from-words _ _ _ short (words_of-deposit address (word ∷ words) fits.0 fits.2) (line_from_words-deposit address word words fits.0 fits.2)

@@ -151,6 +151,11 @@ numbers_text numbers = flat_map (λ number. codes " " ++ decimal number) numbers
 abbrev pub sectors_text : List ℕ → List ℕ
 sectors_text sectors = codes "CHANGED " ++ decimal (length sectors) ++ (numbers_text sectors ++ codes "\n")
 
+-- `TAPE d o`: how many bytes of data a tape placed, and its start address; `TAPE d none` where it gives no start
+unfoldable pub tape_text : ℕ → Option ℕ → List ℕ
+tape_text bytes None = codes "TAPE " ++ decimal bytes ++ codes " none\n"
+tape_text bytes (Some start) = codes "TAPE " ++ decimal bytes ++ codes " " ++ six_octals start ++ codes "\n"
+
 -- `? d name`: the number and the name of the fault
 abbrev pub fault_text : Fault → List ℕ
 fault_text fault = codes "? " ++ decimal (number_of_fault fault) ++ codes " " ++ name_of_fault fault ++ codes "\n"
@@ -164,4 +169,5 @@ text_of (answer.Registers r) = registers_text r
 text_of (answer.Devices d) = devices_text d
 text_of (answer.Sectors sectors) = sectors_text sectors
 text_of (answer.Image bytes) = codes "OK\n"
+text_of (answer.Tape bytes start) = tape_text bytes start
 text_of (answer.Refused fault) = fault_text fault

@@ -6,7 +6,7 @@ use Rattle.std.specs.Str.{bytes_eq}
 use Rattle.std.specs.Char.{digit_value}
 use Rattle.std.specs.Str.Parse.{digits_value}
 use Rattle.p11_lines.specs.declared.line.Line.{Line}
-use Rattle.p11_lines.specs.declared.line.Line.TheVariants.{Mount, Unmount, Save, Changed, Examine, Deposit, Start, Key}
+use Rattle.p11_lines.specs.declared.line.Line.TheVariants.{Mount, Unmount, Save, Changed, Load, Examine, Deposit, Start, Key}
 use Rattle.p11_lines.specs.declared.line.Line.TheVariants.{Tick, Switches, Set, Step, Continue, Regs, Device}
 use Rattle.p11_lines.specs.Escapes.{is_plain}
 
@@ -133,6 +133,14 @@ save_from (d ∷ n ∷ []) = do
   Some (Save drive name)
 save_from (d ∷ n ∷ more ∷ rest) = None
 
+-- `load NAME`
+unfoldable pub load_from : {A : Type 0} → List (List ℕ) → Option (Line A)
+load_from [] = None
+load_from (n ∷ []) = do
+  name ← name_from n
+  Some (Load name)
+load_from (n ∷ more ∷ rest) = None
+
 -- `unmount D`, `changed D`
 unfoldable pub drive_from : {A : Type 0} → (ℕ → Line A) → List (List ℕ) → Option (Line A)
 drive_from ask [] = None
@@ -231,7 +239,8 @@ line_from_words (name ∷ args) =
     if bytes_eq name (codes "step") then turns_from (λ turns. Step turns) args else (
     if bytes_eq name (codes "continue") then turns_from (λ turns. Continue turns) args else (
     if bytes_eq name (codes "regs") then plain_from Regs args else (
-    if bytes_eq name (codes "device") then plain_from Device args else disk_line_from name args))))))))))
+    if bytes_eq name (codes "device") then plain_from Device args else (
+    if bytes_eq name (codes "load") then load_from args else disk_line_from name args)))))))))))
 
 -- the line that these bytes are, which have no end of line with them
 unfoldable pub line_from : {A : Type 0} → List ℕ → Option (Line A)

@@ -3,7 +3,7 @@ use Rattle.std.specs.Prelude.{ℕ, ◌≡◌, ◌<◌, ◌≤◌, true, false, L
 use Rattle.std.specs.List.{flat_map}
 use Rattle.std.specs.Fmt.{digits, decimal}
 use Rattle.p11_lines.specs.declared.line.Line.{Line}
-use Rattle.p11_lines.specs.declared.line.Line.TheVariants.{Mount, Unmount, Save, Changed, Examine, Deposit, Start, Key}
+use Rattle.p11_lines.specs.declared.line.Line.TheVariants.{Mount, Unmount, Save, Changed, Load, Examine, Deposit, Start, Key}
 use Rattle.p11_lines.specs.declared.line.Line.TheVariants.{Tick, Switches, Set, Step, Continue, Regs, Device}
 use Rattle.p11_lines.specs.Escapes.{escaped}
 use Rattle.p11_lines.specs.Grammar.{is_name, access_text, line_from}
@@ -17,6 +17,7 @@ line_text (Mount drive name protect) = codes "mount " ++ octal drive ++ 32 ∷ (
 line_text (Unmount drive) = codes "unmount " ++ octal drive
 line_text (Save drive name) = codes "save " ++ octal drive ++ 32 ∷ name
 line_text (Changed drive) = codes "changed " ++ octal drive
+line_text (Load name) = codes "load " ++ name
 line_text (Examine address count) = codes "examine " ++ octal address ++ 32 ∷ decimal count
 line_text (Deposit address words) = codes "deposit " ++ octal address ++ flat_map (λ word. 32 ∷ octal word) words
 line_text (Start address) = codes "start " ++ octal address
@@ -39,6 +40,7 @@ FitsGrammar (Mount drive name protect) = (drive ≤ 0o177777) × (is_name name �
 FitsGrammar (Unmount drive) = drive ≤ 0o177777
 FitsGrammar (Save drive name) = (drive ≤ 0o177777) × (is_name name ≡ true)
 FitsGrammar (Changed drive) = drive ≤ 0o177777
+FitsGrammar (Load name) = is_name name ≡ true
 FitsGrammar (Examine address count) = (address ≤ 0o777777) × FitsCount count
 FitsGrammar (Deposit address words) = (address ≤ 0o777777) × (0 < length words) × All (λ word. word ≤ 0o177777) words
 FitsGrammar (Start address) = address ≤ 0o177777

@@ -4,12 +4,13 @@ use Rattle.std.specs.declared.vec.Vec.{Vec}
 use Rattle.p11_lines.specs.declared.fault.Fault.{Fault}
 use Rattle.p11_lines.specs.declared.fault.Fault.TheVariants.{NoMemory, BadLine}
 use Rattle.p11_lines.specs.declared.line.Line.{Line}
-use Rattle.p11_lines.specs.declared.line.Line.TheVariants.{Mount, Save, Deposit, Key}
+use Rattle.p11_lines.specs.declared.line.Line.TheVariants.{Mount, Save, Load, Deposit, Key}
 
 -- the line holds a list or a name, for which memory is taken
 abbrev pub holds_list : {A : Type 0} → Line A → Bool
 holds_list (Mount drive name protect) = true
 holds_list (Save drive name) = true
+holds_list (Load name) = true
 holds_list (Deposit address words) = true
 holds_list (Key text) = true
 holds_list _ = false

@@ -157,6 +157,11 @@ pub enum Answer<A: Allocator = Global> {
     Sectors(Words<A>),
     /// All that a pack holds.
     Image(Bytes<A>),
+    /// A tape was read in: how many bytes of data it has, and its start address, if it gives one.
+    Tape {
+        bytes: u64,
+        start: Option<u16>,
+    },
     /// The command was refused, and changed nothing.
     Refused(Fault),
 }

@@ -27,7 +27,7 @@ fn are_graphic(word: &[u8]) -> bool
 
 /// Whether a word is a name.
 #[tactic(auto, unfolding(crate::specs::Grammar::is_name))]
-fn is_name(word: &[u8]) -> bool
+pub(crate) fn is_name(word: &[u8]) -> bool
     ensures { result ≡ is_name word.now }
 {
     if word.is_empty() {

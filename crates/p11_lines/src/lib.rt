@@ -13,6 +13,7 @@ mod output;
 mod packs;
 mod parse;
 mod run;
+mod tapes;
 mod text;
 mod words;
 

@@ -26,6 +26,10 @@ pub enum Line<A: Allocator = Global> {
     Changed {
         drive: u32,
     },
+    /// Read the tape that has a name in to memory.
+    Load {
+        name: Bytes<A>,
+    },
     /// Show so many words from a bus address of 18 bits on.
     Examine {
         address: u32,

@@ -13,6 +13,7 @@ use crate::escape::digit;
 use crate::fault::Fault;
 use crate::packs::put_sectors;
 use crate::run::put_run;
+use crate::tapes::put_tape;
 use arrayvec::ArrayVec;
 use itoa::Buffer;
 use std::alloc::Allocator;
@@ -272,6 +273,7 @@ fn put_text<W: Write, A: Allocator>(
         Answer::Registers(registers) => put_registers(writer, table, registers),
         Answer::Devices(devices) => put_devices(writer, table, devices),
         Answer::Sectors(sectors) => put_sectors(writer, table, sectors.as_slice()),
+        Answer::Tape { bytes, start } => put_tape(writer, table, *bytes, *start),
         Answer::Refused(fault) => put_fault(writer, table, *fault),
     }
 }

@@ -11,6 +11,7 @@ use crate::disks::disk_line;
 use crate::fault::Fault;
 use crate::keys::key;
 use crate::line::Line;
+use crate::tapes::load;
 use crate::words::Words;
 use std::alloc::Allocator;
 
@@ -316,6 +317,9 @@ pub fn parse_line<A: Allocator>(alloc: A, line: &[u8]) -> Result<Line<A>, Fault>
     }
     if name == b"device".as_slice() {
         return plain(Line::Device, args).ok_or(Fault::BadLine);
+    }
+    if name == b"load".as_slice() {
+        return load(alloc, args);
     }
     disk_line(alloc, name, args)
 }

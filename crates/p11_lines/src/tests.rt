@@ -3,4 +3,5 @@ mod answers;
 mod disks;
 mod memory;
 mod reading;
+mod tapes;
 mod writers;

@@ -8,6 +8,7 @@ ghost use Rattle.p11_lines.specs.LineText.{line_text, octal, ReadsBack};
 use crate::escape::{escape, is_plain};
 use crate::fault::NoMemory;
 use crate::line::Line;
+use crate::tapes::load_text;
 use std::alloc::{AllocError, Allocator};
 
 /// Adds a space and an octal number for each word.
@@ -98,6 +99,7 @@ pub fn line_of<A: Allocator>(alloc: A, line: &Line<A>) -> Result<Vec<u8, A>, NoM
         Line::Unmount { drive } => format!(in alloc; "unmount {drive:o}")?,
         Line::Save { drive, name } => return save_text(alloc, *drive, name.as_slice()),
         Line::Changed { drive } => format!(in alloc; "changed {drive:o}")?,
+        Line::Load { name } => return load_text(alloc, name.as_slice()),
         Line::Key { text } => return key_text(alloc, text.as_slice()),
         Line::Examine { address, count } => format!(in alloc; "examine {address:o} {count}")?,
         Line::Deposit { address, words } => {

@@ -17,6 +17,7 @@ use Rattle.p11_panel.specs.Keys.{pressed}
 use Rattle.p11_panel.specs.Refusals.{IsRefused, IsDone}
 use Rattle.p11_panel.specs.Runs.{IsRun, stops_idling}
 use Rattle.p11_panel.specs.Shown.{registers_of, shown_devices}
+use Rattle.p11_panel.specs.Tapes.{Loads}
 
 -- EXAMINE: 1 to 512 words from an even address on, all of which answer
 unfoldable pub examine_fault : ℕ → ℕ → State → Option Fault
@@ -86,6 +87,7 @@ Acts s (commands.Mount drive image protect) answer s' = Mounts drive image prote
 Acts s (commands.Unmount drive) answer s' = Unmounts drive s answer s'
 Acts s (commands.Save drive) answer s' = Saves drive s answer s'
 Acts s (commands.Changed drive) answer s' = ShowsChanged drive s answer s'
+Acts s (commands.Load tape) answer s' = Loads tape s answer s'
 Acts s (commands.Examine address n) answer s' =
     MatchOption (examine_fault address n s) (Examines address n s answer s') (λ fault. IsRefused fault s answer s')
 Acts s (commands.Deposit address words) answer s' =

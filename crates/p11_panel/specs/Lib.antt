@@ -6,6 +6,7 @@ pub mod Keys
 pub mod Refusals
 pub mod Shown
 pub mod Disks
+pub mod Tapes
 pub mod Commands
 pub mod Play
 pub mod Script

@@ -49,11 +49,10 @@ abbrev pub fault_of : StoreError → Fault
 fault_of errors.Refused = StoreFault
 fault_of errors.NoMemory = NoMemory
 
--- MOUNT of the bytes under a name, which are fetched before all else
-abbrev pub MountsFile : {A : Type 0} → ℕ → List ℕ → Bool → SessionState → Answer A → SessionState → Type 0
-MountsFile drive name protect s answer s' =
-    ((image : List ℕ) × Fetches s.store name image s'.store
-    × Acts s.machine (commands.Mount drive image protect) answer s'.machine)
+-- a command on the bytes under a name, which are fetched before all else
+abbrev pub OnFile : {A : Type 0} → List ℕ → (List ℕ → Command A) → SessionState → Answer A → SessionState → Type 0
+OnFile name command s answer s' =
+    ((bytes : List ℕ) × Fetches s.store name bytes s'.store × Acts s.machine (command bytes) answer s'.machine)
     ⊎ ((error : StoreError) × FailsToFetch s.store error s'.store
     × (answer ≡ answers.Refused (fault_of error)) × (s'.machine ≡ s.machine))
 
@@ -72,10 +71,11 @@ SavesFile {A} drive name s answer s' = (s'.machine ≡ s.machine) × (
 
 -- what a line does that the grammar has
 unfoldable pub Obeys : {A : Type 0} → Line A → SessionState → Answer A → SessionState → Type 0
-Obeys (lines.Mount drive name protect) s answer s' = MountsFile drive name protect s answer s'
+Obeys (lines.Mount drive name protect) s answer s' = OnFile name (λ image. commands.Mount drive image protect) s answer s'
 Obeys (lines.Unmount drive) s answer s' = IsCommand (commands.Unmount drive) s answer s'
 Obeys (lines.Save drive name) s answer s' = SavesFile drive name s answer s'
 Obeys (lines.Changed drive) s answer s' = IsCommand (commands.Changed drive) s answer s'
+Obeys (lines.Load name) s answer s' = OnFile name (λ tape. commands.Load tape) s answer s'
 Obeys (lines.Examine address count) s answer s' = IsCommand (commands.Examine address count) s answer s'
 Obeys (lines.Deposit address words) s answer s' = IsCommand (commands.Deposit address words) s answer s'
 Obeys (lines.Start address) s answer s' = IsCommand (commands.Start address) s answer s'

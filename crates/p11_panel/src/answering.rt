@@ -1,7 +1,7 @@
 ghost use Rattle.std.specs.Prelude.{◌≡◌};
 ghost use Rattle.p11_lines.specs.Grammar.{line_from};
 ghost use Rattle.p11_panel.specs.Session.{is_silent, has_answer, with_store, LineDoes};
-ghost use Rattle.p11_panel.specs.Session.{Asks, Obeys, MountsFile, SavesFile, Keeps};
+ghost use Rattle.p11_panel.specs.Session.{Asks, Obeys, OnFile, SavesFile, Keeps};
 
 use crate::command::Command;
 use crate::panel::Panel;
@@ -33,7 +33,7 @@ fn mount_file<A: Allocator + Copy, S: Store>(
     name: &[u8],
     protect: bool,
 ) -> Answer<A>
-    ensures { MountsFile drive name.now protect (with_store panel.old (S.state store.old)) result
+    ensures { OnFile name.now (λ image. Command.Mount drive image protect) (with_store panel.old (S.state store.old)) result
         (with_store panel.new (S.state store.new)) }
 {
     match store.fetch(alloc, name) {
@@ -47,6 +47,26 @@ fn mount_file<A: Allocator + Copy, S: Store>(
                     protect,
                 },
             )
+        }
+        Err(StoreError::Refused) => Answer::Refused(Fault::StoreFault),
+        Err(StoreError::NoMemory) => Answer::Refused(Fault::NoMemory),
+    }
+}
+
+/// Loads the tape under a name.
+fn load_file<A: Allocator + Copy, S: Store>(
+    alloc: A,
+    panel: &mut Panel<A>,
+    store: &mut S,
+    name: &[u8],
+) -> Answer<A>
+    ensures { OnFile name.now (λ tape. Command.Load tape) (with_store panel.old (S.state store.old)) result
+        (with_store panel.new (S.state store.new)) }
+{
+    match store.fetch(alloc, name) {
+        Ok(tape) => {
+            let tape = Bytes::from_vec(tape);
+            panel.act(alloc, &Command::Load { tape })
         }
         Err(StoreError::Refused) => Answer::Refused(Fault::StoreFault),
         Err(StoreError::NoMemory) => Answer::Refused(Fault::NoMemory),
@@ -100,6 +120,7 @@ fn obey<A: Allocator + Copy, S: Store>(
         Line::Unmount { drive } => panel.act(alloc, &Command::Unmount { drive }),
         Line::Save { drive, name } => save_file(alloc, panel, store, drive, name.as_slice()),
         Line::Changed { drive } => panel.act(alloc, &Command::Changed { drive }),
+        Line::Load { name } => load_file(alloc, panel, store, name.as_slice()),
         Line::Examine { address, count } => {
             panel.act(alloc, &Command::Examine { address, count })
         }

@@ -22,6 +22,10 @@ pub enum Command<A: Allocator = Global> {
     Changed {
         drive: u32,
     },
+    /// Write the bytes of a tape in the absolute binary format to memory.
+    Load {
+        tape: Bytes<A>,
+    },
     /// Show so many words from an even bus address on: 1 to 512.
     Examine {
         address: u32,

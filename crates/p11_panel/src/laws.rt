@@ -1,6 +1,7 @@
 //! Laws of the definitions, each a function that does nothing, whose contract is the law.
 ghost use Rattle.p11_panel.specs.Laws.{RunsHaveOneOutcome, CommandsHaveOneOutcome, ListsHaveOneOutcome};
 
+use p11_tape::{fault_or_meaning, one_meaning};
 use std::alloc::Allocator;
 
 /// Two runs of the same number of turns from the same state, neither of which want of memory stopped, make the same
@@ -14,6 +15,8 @@ pub fn a_command_has_one_outcome<A: Allocator>()
     ensures { CommandsHaveOneOutcome A }
 {
     a_run_has_one_outcome();
+    one_meaning();
+    fault_or_meaning();
 }
 
 /// A list of commands has one list of answers and one last state, where memory refused and stopped none of them.
@@ -21,4 +24,6 @@ pub fn a_list_has_one_outcome<A: Allocator>()
     ensures { ListsHaveOneOutcome A }
 {
     a_run_has_one_outcome();
+    one_meaning();
+    fault_or_meaning();
 }

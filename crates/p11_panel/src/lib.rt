@@ -8,6 +8,7 @@ mod disk;
 mod keys;
 mod laws;
 mod line_buffer;
+mod loading;
 mod memory_store;
 mod panel;
 mod playing;

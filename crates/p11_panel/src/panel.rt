@@ -53,6 +53,7 @@ impl<A: Allocator + Copy> Panel<A> {
             Command::Unmount { drive } => self.unmount(*drive),
             Command::Save { drive } => self.save(alloc, *drive),
             Command::Changed { drive } => self.changed(alloc, *drive),
+            Command::Load { tape } => self.load(alloc, tape.as_slice()),
             Command::Examine { address, count } => self.examine(alloc, *address, *count),
             Command::Deposit { address, words } => self.deposit(*address, words.as_slice()),
             Command::Start { address } => self.start(*address),

@@ -9,6 +9,7 @@ mod refused_growths;
 mod refused_packs;
 mod stores;
 mod streams;
+mod tapes;
 
 use crate::{Config, MemoryStore, NoMemory, Panel, SessionFault, session};
 use std::alloc::{Allocator, Global};

@@ -122,6 +122,7 @@ fn names_want_memory(rt: HostRuntime) -> Result<(), Fail> {
     assert!(rt; !full.is_empty());
     assert_eq!(rt; parse_line(&heap, b"mount 0 pack rw"), Err(Fault::NoMemory));
     assert_eq!(rt; parse_line(&heap, b"save 0 pack"), Err(Fault::NoMemory));
+    assert_eq!(rt; parse_line(&heap, b"load pack"), Err(Fault::NoMemory));
     assert_eq!(rt; parse_line(&heap, b"mount 0 pack r"), Err(Fault::BadLine));
     assert_eq!(rt; parse_line(&heap, b"save 8 pack"), Err(Fault::BadLine));
     assert_eq!(rt;

@@ -1,0 +1,78 @@
+// LOAD.
+ghost use Rattle.std.specs.Prelude.{◌≡◌, ℕ, true};
+ghost use Rattle.p11_cpu.specs.Operator.{holds_byte_of, put_byte_of};
+ghost use Rattle.p11_panel.specs.Tapes.{all_fit, loaded, Places, Loads};
+
+use crate::panel::Panel;
+use p11_lines::{Answer, Fault};
+use p11_tape::{TapeFaultKind, read_tape};
+use std::alloc::Allocator;
+
+impl<A: Allocator + Copy> Panel<A> {
+    /// Whether memory has a byte at an address.
+    fn has_byte(&self, address: u16) -> bool
+        ensures { result ≡ holds_byte_of address self.now }
+    {
+        self.machine.holds_byte(u32::from(address))
+    }
+
+    /// Writes a byte to memory.
+    fn put_byte(&mut self, address: u16, byte: u8)
+        requires { holds_byte_of address self.old ≡ true }
+        ensures state { self.new ≡ put_byte_of address byte self.old }
+        ensures holds { (a : ℕ) → holds_byte_of a self.new ≡ holds_byte_of a self.old }
+    {
+        self.machine.put_byte(u32::from(address), byte);
+    }
+
+    /// Whether memory has a byte at each of the addresses.
+    #[tactic(auto, using(crate::proofs::LoadLemmas::fits_not, crate::proofs::LoadLemmas::fits_more), unfolding(crate::specs::Tapes::all_fit))]
+    fn all_fit(&self, placed: &[(u16, u8)]) -> bool
+        ensures { result ≡ all_fit placed.now self.now }
+    {
+        for byte in placed {
+            if !self.has_byte(byte.0) {
+                return false;
+            }
+        }
+        true
+    }
+
+    /// Writes bytes to memory, one after another.
+    #[tactic(auto, unfolding(crate::specs::Tapes::loaded))]
+    fn put_all(&mut self, placed: &[(u16, u8)])
+        requires { all_fit placed.now self.old ≡ true }
+        ensures { self.new ≡ loaded placed.now self.old }
+    {
+        for byte in placed {
+            self.put_byte(byte.0, byte.1);
+        }
+    }
+
+    /// Writes the bytes of a tape to memory.
+    fn place(&mut self, placed: &[(u16, u8)], start: Option<u16>) -> Answer<A>
+        ensures { Places placed.now start self.old result self.new }
+    {
+        if !self.all_fit(placed) {
+            return Answer::Refused(Fault::NoAnswer);
+        }
+        self.put_all(placed);
+        Answer::Tape {
+            bytes: placed.len() as u64,
+            start,
+        }
+    }
+
+    /// LOAD.
+    pub(crate) fn load(&mut self, alloc: A, tape: &[u8]) -> Answer<A>
+        ensures { Loads tape.now self.old result self.new }
+    {
+        match read_tape(alloc, tape) {
+            Ok(tape) => self.place(tape.bytes.as_slice(), tape.start),
+            Err(fault) => match fault.kind {
+                TapeFaultKind::Memory => Answer::Refused(Fault::NoMemory),
+                _ => Answer::Refused(Fault::BadTape),
+            },
+        }
+    }
+}
