@@ -4,6 +4,7 @@ use Rattle.p11_psw.specs.declared.mode.Mode.TheVariants.{Kernel}
 use Rattle.p11_kt11.specs.declared.page.Page.{Page}
 use Rattle.p11_kt11.specs.declared.status.Status.{Status}
 use Rattle.p11_kt11.specs.declared.register.Space.{Space}
+use Rattle.p11_kt11.specs.declared.entry.Entries.{Entries}
 use Rattle.p11_kt11.specs.declared.register.Space.TheVariants.{Kernel as KernelSpace, User as UserSpace}
 use Rattle.p11_kt11.specs.Page.{clear_page}
 use Rattle.p11_kt11.specs.Reference.{any_cause, no_cause}
@@ -27,6 +28,10 @@ pub record IsManagement (s : Management) : Type 0 where
 -- `visible`, and no clause on `visible` speaks of it.
 pub record Kt11State : Type 0 where
   pub visible : Management
+  -- the entries of its pages
+  pub entries : Entries
+  -- how many references they served
+  pub hits : ℕ
 
 -- SR0 with no error, mode 00, page 0 and mapping off
 unfoldable pub clear_status : Status

@@ -7,6 +7,8 @@
 //! processor handbook.
 #![tactic(auto)]
 
+mod entry;
+mod kept;
 mod kt11;
 mod laws;
 mod page;
@@ -16,10 +18,12 @@ mod status;
 #[cfg(test)]
 mod tests;
 
+pub use entry::{Entries, Entry};
 pub use kt11::Kt11;
 pub use laws::{
-    only_the_top_goes_to_the_io_page, same_pages_same_place, same_reference_same_answer,
-    translation_keeps_pages, translation_keeps_user_off_io_page, user_translation_keeps_all_else,
+    entries_serve_the_translation, entry_serves_its_page, only_the_top_goes_to_the_io_page,
+    same_pages_same_place, same_reference_same_answer, translation_keeps_pages,
+    translation_keeps_user_off_io_page, user_translation_keeps_all_else,
 };
 pub use page::{Access, Descriptor, Growth, Page};
 pub use reference::{Abort, Causes, Kind};

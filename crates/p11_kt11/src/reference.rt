@@ -76,7 +76,7 @@ pub struct Abort {
 
 /// ACF 00 and 10 abort every reference.
 #[tactic(auto, unfolding(crate::specs::Reference::is_absent))]
-fn is_absent(access: Access) -> bool
+pub(crate) fn is_absent(access: Access) -> bool
     ensures { result ≡ is_absent access }
 {
     match access {
@@ -98,7 +98,7 @@ fn is_beyond(growth: Growth, length: u8, block: u8) -> bool
 
 /// ACF 01 aborts writes.
 #[tactic(auto, unfolding(crate::specs::Reference::forbids))]
-fn forbids(access: Access, kind: Kind) -> bool
+pub(crate) fn forbids(access: Access, kind: Kind) -> bool
     ensures { result ≡ forbids access kind }
 {
     match (access, kind) {

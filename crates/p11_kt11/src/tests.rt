@@ -318,3 +318,64 @@ fn a_byte_write_replaces_half_of_the_word_that_shows(rt: HostRuntime) {
     write_byte(&rt, &mut unit, SR2, 0o377);
     assert_eq!(rt; unit.status_2(), 0o1234);
 }
+
+/// Reads through a page of kernel mode, and answers how many hits there have been.
+fn read(rt: &impl process::Abort, unit: &mut Kt11, address: u16) -> u64 {
+    assert_eq!(rt;
+        unit.translate(Mode::Kernel, address, Kind::Read),
+        Ok(u32::from(address))
+    );
+    unit.hits()
+}
+
+#[test]
+fn reads_of_one_address_are_hits(rt: HostRuntime) {
+    let mut unit = unit_with(&rt, [(KERNEL_PDR, 0o77406), (SR0, 1)].as_slice());
+    for hits in 0..1000 {
+        assert_eq!(rt; read(&rt, &mut unit, 0o1000), hits);
+    }
+    assert_eq!(rt; unit.audit(), 0);
+}
+
+#[test]
+fn an_entry_goes_with_its_page(rt: HostRuntime) {
+    let words = [
+        (KERNEL_PDR, 0o77406),
+        (KERNEL_PDR + 2, 0o77406),
+        (KERNEL_PAR + 2, 0o200),
+        (SR0, 1),
+    ];
+    let mut unit = unit_with(&rt, words.as_slice());
+    assert_eq!(rt; read(&rt, &mut unit, 0o1000), 0);
+    assert_eq!(rt; read(&rt, &mut unit, 0o21000), 0);
+    assert_eq!(rt; read(&rt, &mut unit, 0o37776), 1);
+    // a write to the PAR of page 1 and to the PDR of page 0 drop one entry each
+    assert!(rt; unit.write(KERNEL_PAR + 2, 0o200));
+    assert_eq!(rt; read(&rt, &mut unit, 0o1000), 2);
+    assert_eq!(rt; read(&rt, &mut unit, 0o21000), 2);
+    assert!(rt; unit.write(KERNEL_PDR, 0o77406));
+    assert_eq!(rt; read(&rt, &mut unit, 0o21000), 3);
+    assert_eq!(rt; read(&rt, &mut unit, 0o1000), 3);
+    // a write of SR0 that leaves mapping on drops none
+    assert!(rt; unit.write(SR0, 0o100001));
+    assert_eq!(rt; read(&rt, &mut unit, 0o21000), 4);
+    unit.flush();
+    assert_eq!(rt; read(&rt, &mut unit, 0o21000), 4);
+    unit.init();
+    assert_eq!(rt; read(&rt, &mut unit, 0o1000), 4);
+    assert_eq!(rt; unit.audit(), 0);
+}
+
+#[test]
+fn writes_are_served_after_a_write(rt: HostRuntime) {
+    let mut unit = unit_with(&rt, [(KERNEL_PDR, 0o77406), (SR0, 1)].as_slice());
+    assert_eq!(rt; read(&rt, &mut unit, 0o1000), 0);
+    for (shown, hits) in [(0o77506, 0), (0o77506, 1)] {
+        assert_eq!(rt;
+            unit.translate(Mode::Kernel, 0o1002, Kind::Write),
+            Ok(0o1002)
+        );
+        assert_eq!(rt; (unit.read(KERNEL_PDR), unit.hits()), (Some(shown), hits));
+    }
+    assert_eq!(rt; read(&rt, &mut unit, 0o1000), 2);
+}
