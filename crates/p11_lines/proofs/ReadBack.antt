@@ -6,7 +6,7 @@ use Rattle.std.proofs.lemmas.Bool.{not-true, and_parts, ltb-true}
 use Rattle.std.proofs.lemmas.Bool.Decides.{nat_tests}
 use Rattle.std.proofs.lemmas.List.Sums.{AllPass-from_list_all}
 use Rattle.p11_lines.specs.declared.line.Line.{Line}
-use Rattle.p11_lines.specs.declared.line.Line.TheVariants.{Mount, Unmount, Save, Changed, Load, Examine, Deposit, Start, Key, Tick, Switches, Set, Step, Continue, Regs, Device}
+use Rattle.p11_lines.specs.declared.line.Line.TheVariants.{Mount, Unmount, Save, Changed, Load, Examine, Deposit, Start, Key, Tick, Switches, Set, Step, Continue, Regs, Device, Flush}
 use Rattle.p11_lines.specs.Grammar.{is_blank, words_of, address_from, word_from, all_words_from, examine_from, deposit_from, start_from, key_from, plain_from, switches_from, set_from, turns_from, line_from_words, line_from, is_graphic, is_name, name_from, access_text, access_from, mount_from, save_from, load_from, drive_from, disk_line_from}
 use Rattle.p11_lines.specs.LineText.{octal, line_text, FitsCount, FitsGrammar}
 use Rattle.p11_lines.specs.Escapes.{escaped}
@@ -171,6 +171,10 @@ words_of-device : words_of (codes "device") ≡ codes "device" ∷ []
 unfolding words_of
 words_of-device = refl
 
+words_of-flush : words_of (codes "flush") ≡ codes "flush" ∷ []
+unfolding words_of
+words_of-flush = refl
+
 -- the line that the words are
 line_from-words : {A : Type 0} (bytes : List ℕ) (words : List (List ℕ)) (line : Line A) → length bytes ≤ 4096 → words_of bytes ≡ words → line_from_words words ≡ Some line → line_from bytes ≡ Some line
 unfolding line_from
@@ -241,6 +245,10 @@ line_from_words-device : {A : Type 0} → line_from_words {A = A} (codes "device
 unfolding line_from_words plain_from
 line_from_words-device = refl
 
+line_from_words-flush : {A : Type 0} → line_from_words {A = A} (codes "flush" ∷ []) ≡ Some Flush
+unfolding line_from_words plain_from
+line_from_words-flush = refl
+
 line_from_words-regs : {A : Type 0} → line_from_words {A = A} (codes "regs" ∷ []) ≡ Some Regs
 unfolding line_from_words plain_from
 line_from_words-regs = refl
@@ -264,3 +272,4 @@ line_from-line_text Tick fits short = line_from-words _ _ _ short words_of-tick 
 line_from-line_text (Switches word) fits short = line_from-words _ _ _ short (words_of-switches word fits) (line_from_words-switches word fits)
 line_from-line_text (Continue turns) fits short = line_from-words _ _ _ short (words_of-continue turns fits) (line_from_words-continue turns fits)
 line_from-line_text Device fits short = line_from-words _ _ _ short words_of-device line_from_words-device
+line_from-line_text Flush fits short = line_from-words _ _ _ short words_of-flush line_from_words-flush

@@ -7,7 +7,7 @@ use Rattle.std.specs.Char.{digit_value}
 use Rattle.std.specs.Str.Parse.{digits_value}
 use Rattle.p11_lines.specs.declared.line.Line.{Line}
 use Rattle.p11_lines.specs.declared.line.Line.TheVariants.{Mount, Unmount, Save, Changed, Load, Examine, Deposit, Start, Key}
-use Rattle.p11_lines.specs.declared.line.Line.TheVariants.{Tick, Switches, Set, Step, Continue, Regs, Device}
+use Rattle.p11_lines.specs.declared.line.Line.TheVariants.{Tick, Switches, Set, Step, Continue, Regs, Device, Flush}
 use Rattle.p11_lines.specs.Escapes.{is_plain}
 
 -- the steps of a reading, of which each may find that there is no line
@@ -240,7 +240,8 @@ line_from_words (name ∷ args) =
     if bytes_eq name (codes "continue") then turns_from (λ turns. Continue turns) args else (
     if bytes_eq name (codes "regs") then plain_from Regs args else (
     if bytes_eq name (codes "device") then plain_from Device args else (
-    if bytes_eq name (codes "load") then load_from args else disk_line_from name args)))))))))))
+    if bytes_eq name (codes "flush") then plain_from Flush args else (
+    if bytes_eq name (codes "load") then load_from args else disk_line_from name args))))))))))))
 
 -- the line that these bytes are, which have no end of line with them
 unfoldable pub line_from : {A : Type 0} → List ℕ → Option (Line A)

@@ -4,7 +4,7 @@ use Rattle.std.specs.List.{flat_map}
 use Rattle.std.specs.Fmt.{digits, decimal}
 use Rattle.p11_lines.specs.declared.line.Line.{Line}
 use Rattle.p11_lines.specs.declared.line.Line.TheVariants.{Mount, Unmount, Save, Changed, Load, Examine, Deposit, Start, Key}
-use Rattle.p11_lines.specs.declared.line.Line.TheVariants.{Tick, Switches, Set, Step, Continue, Regs, Device}
+use Rattle.p11_lines.specs.declared.line.Line.TheVariants.{Tick, Switches, Set, Step, Continue, Regs, Device, Flush}
 use Rattle.p11_lines.specs.Escapes.{escaped}
 use Rattle.p11_lines.specs.Grammar.{is_name, access_text, line_from}
 
@@ -29,6 +29,7 @@ line_text (Step turns) = codes "step " ++ decimal turns
 line_text (Continue turns) = codes "continue " ++ decimal turns
 line_text Regs = codes "regs"
 line_text Device = codes "device"
+line_text Flush = codes "flush"
 
 -- a count that a line can show
 abbrev pub FitsCount : ℕ → Type 0

@@ -71,4 +71,6 @@ pub enum Line<A: Allocator = Global> {
     Regs,
     /// Show the devices.
     Device,
+    /// Drop what is kept of memory to make the machine fast, which nothing shows.
+    Flush,
 }

@@ -318,6 +318,9 @@ pub fn parse_line<A: Allocator>(alloc: A, line: &[u8]) -> Result<Line<A>, Fault>
     if name == b"device".as_slice() {
         return plain(Line::Device, args).ok_or(Fault::BadLine);
     }
+    if name == b"flush".as_slice() {
+        return plain(Line::Flush, args).ok_or(Fault::BadLine);
+    }
     if name == b"load".as_slice() {
         return load(alloc, args);
     }

@@ -115,6 +115,7 @@ pub fn line_of<A: Allocator>(alloc: A, line: &Line<A>) -> Result<Vec<u8, A>, NoM
         Line::Continue { turns } => format!(in alloc; "continue {turns}")?,
         Line::Regs => format!(in alloc; "regs")?,
         Line::Device => format!(in alloc; "device")?,
+        Line::Flush => format!(in alloc; "flush")?,
     };
     Ok(text.into_bytes())
 }

@@ -102,6 +102,7 @@ acts_once {A} law tapes s (commands.Step n) answer other s' t' h k m l =
     either_once (step_fault n s) _ _ _ _ _ (stops_once law false n s answer other s' t' m l) (λ fault. done_once (answers.Refused fault) answer other s s' t') h k
 acts_once {A} law tapes s (commands.Key text) answer other s' t' h k m l =
     either_once (key_fault text s) _ _ _ _ _ (done_once answers.Done answer other (pressed text s) s' t') (λ fault. done_once (answers.Refused fault) answer other s s' t') h k
+acts_once law tapes s commands.Flush answer other s' t' h k m l = done_once answers.Done answer other s s' t' h k
 acts_once law tapes s commands.Tick answer other s' t' h k m l = done_once answers.Done answer other (tick_of s) s' t' h k
 acts_once law tapes s (commands.Switches word) answer other s' t' h k m l = done_once answers.Done answer other (set_switches_of word s) s' t' h k
 acts_once {A} law tapes s (commands.Continue n) answer other s' t' h k m l =

@@ -103,5 +103,6 @@ Acts s (commands.Step n) answer s' =
     MatchOption (step_fault n s) (Stops false n s answer s') (λ fault. IsRefused fault s answer s')
 Acts s (commands.Continue n) answer s' =
     MatchOption (step_fault n s) (Stops true n s answer s') (λ fault. IsRefused fault s answer s')
+Acts s commands.Flush answer s' = IsDone answers.Done s answer s'
 Acts s commands.Regs answer s' = IsDone (answers.Registers (registers_of s)) s answer s'
 Acts s commands.Device answer s' = IsDone (answers.Devices (shown_devices s)) s answer s'

@@ -85,6 +85,7 @@ Obeys (lines.Switches word) s answer s' = IsCommand (commands.Switches word) s a
 Obeys (lines.Set register value) s answer s' = IsCommand (commands.Set register value) s answer s'
 Obeys (lines.Step turns) s answer s' = IsCommand (commands.Step turns) s answer s'
 Obeys (lines.Continue turns) s answer s' = IsCommand (commands.Continue turns) s answer s'
+Obeys lines.Flush s answer s' = IsCommand commands.Flush s answer s'
 Obeys lines.Regs s answer s' = IsCommand commands.Regs s answer s'
 Obeys lines.Device s answer s' = IsCommand commands.Device s answer s'
 

@@ -134,6 +134,7 @@ fn obey<A: Allocator + Copy, S: Store>(
         Line::Set { register, value } => panel.act(alloc, &Command::Set { register, value }),
         Line::Step { turns } => panel.act(alloc, &Command::Step { turns }),
         Line::Continue { turns } => panel.act(alloc, &Command::Continue { turns }),
+        Line::Flush => panel.act(alloc, &Command::Flush),
         Line::Regs => panel.act(alloc, &Command::Regs),
         Line::Device => panel.act(alloc, &Command::Device),
     }

@@ -66,6 +66,8 @@ pub enum Command<A: Allocator = Global> {
     },
     /// Show the processor's registers.
     Regs,
+    /// Drop all that the machine keeps to find answers sooner. Nothing that shows changes.
+    Flush,
     /// Show the devices.
     Device,
 }

@@ -63,6 +63,7 @@ impl<A: Allocator + Copy> Panel<A> {
             Command::Set { register, value } => self.set(*register, *value),
             Command::Step { turns } => self.step(*turns),
             Command::Continue { turns } => self.continue_run(*turns),
+            Command::Flush => self.flush(),
             Command::Regs => Answer::Registers(self.registers()),
             Command::Device => Answer::Devices(self.devices()),
         }
@@ -144,6 +145,14 @@ impl<A: Allocator + Copy> Panel<A> {
         ensures { Acts self.old (Command.Switches word) result self.new }
     {
         self.machine.set_switches(word);
+        Answer::Done
+    }
+
+    /// FLUSH.
+    fn flush(&mut self) -> Answer<A>
+        ensures { Acts self.old Command.Flush result self.new }
+    {
+        self.machine.flush();
         Answer::Done
     }
 

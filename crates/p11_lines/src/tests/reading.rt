@@ -20,7 +20,7 @@ fn each_line_is_read_and_written(rt: HostRuntime) -> Result<(), Fail> {
     let words = Words::from_vec([0o12700, 5].to_vec(rt.alloc())?);
     let plain = Bytes::from_vec(Vec::from_slice(rt.alloc(), b"AB")?);
     let escaped = Bytes::from_vec(Vec::from_slice(rt.alloc(), b"\n\\~!\xff\x7f ")?);
-    let cases: [(&[u8], Line, &[u8]); 15] = [
+    let cases: [(&[u8], Line, &[u8]); 16] = [
         (
             b"examine 1000",
             Line::Examine {
@@ -94,6 +94,7 @@ fn each_line_is_read_and_written(rt: HostRuntime) -> Result<(), Fail> {
             b"continue 100",
         ),
         (b"device", Line::Device, b"device"),
+        (b" flush\t", Line::Flush, b"flush"),
     ];
     for (text, want, back) in &cases {
         let line = parse_line(rt.alloc(), text)?;
@@ -106,7 +107,7 @@ fn each_line_is_read_and_written(rt: HostRuntime) -> Result<(), Fail> {
 
 #[test]
 fn what_is_no_line_is_refused(rt: HostRuntime) {
-    let cases: [&[u8]; 56] = [
+    let cases: [&[u8]; 57] = [
         b"",
         b" \t",
         b"# regs",
@@ -114,6 +115,7 @@ fn what_is_no_line_is_refused(rt: HostRuntime) {
         b"Regs",
         b"reg",
         b"regs 1",
+        b"flush 0",
         b"regs\r",
         b"regs\x0b",
         b"examine",

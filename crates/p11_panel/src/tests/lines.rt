@@ -138,3 +138,16 @@ fn devices_answer_the_operator(rt: HostRuntime) -> Result<(), Fail> {
     assert_eq!(rt; answered, Ok(17));
     Ok(())
 }
+
+#[test]
+fn kept_translations_are_dropped(rt: HostRuntime) -> Result<(), Fail> {
+    let script =
+        b"deposit 772300 77406\ndeposit 772306 77406\ndeposit 772346 600\ndeposit 772316 77406\ndeposit 772356 7600\ndeposit 1000 10137 60000 12737 600 172346 13702 60000 10137 60000\nstart 1000\nflush\ndeposit 777572 1\nflush\nstep 1\nflush\nexamine 772306\nflush\nstep 1\nflush\nexamine 772306\nflush\nstep 1\nflush\nexamine 772306\nflush\nstep 1\nflush\nexamine 772306\nflush\nflush 1\n";
+    let (written, answered) = run_script(rt.alloc(), script)?;
+    assert_eq!(rt;
+        written.as_slice(),
+        b"OK\nOK\nOK\nOK\nOK\nOK\nOK\nOK\nOK\nOK\nSTOP turns 1 001004\nOK\nEXAM 772306 077506\nOK\nSTOP turns 1 001012\nOK\nEXAM 772306 077406\nOK\nSTOP turns 1 001016\nOK\nEXAM 772306 077406\nOK\nSTOP turns 1 001022\nOK\nEXAM 772306 077506\nOK\n? 13 BadLine\n".as_slice()
+    );
+    assert_eq!(rt; answered, Ok(27));
+    Ok(())
+}
