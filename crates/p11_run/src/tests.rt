@@ -19,6 +19,7 @@ mod sessions;
 mod spaces;
 mod stack;
 mod status;
+mod tapes;
 mod trace;
 mod traps;
 mod trials;
