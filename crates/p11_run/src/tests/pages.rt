@@ -187,7 +187,7 @@ static WRITTEN: [Written; 18] = [
     ),
 ];
 
-static OTHERS: [Session; 5] = [
+static OTHERS: [Session; 6] = [
     (
         "a page's address is changed",
         "deposit 772300 77406\ndeposit 772306 77406\ndeposit 772346 600\n\
@@ -198,6 +198,19 @@ static OTHERS: [Session; 5] = [
         "OK\nOK\nOK\nOK\nOK\nOK\nOK\nOK\nSTOP turns 1 001004\nEXAM 772306 077506\n\
          STOP turns 1 001012\nEXAM 772306 077406\nSTOP turns 1 001016\nEXAM 772306 077406\n\
          STOP turns 1 001022\nEXAM 772306 077506\n",
+    ),
+    (
+        "the same, with what is kept dropped at each line",
+        "deposit 772300 77406\ndeposit 772306 77406\ndeposit 772346 600\n\
+         deposit 772316 77406\ndeposit 772356 7600\n\
+         deposit 1000 10137 60000 12737 600 172346 13702 60000 10137 60000\nstart 1000\n\
+         flush\ndeposit 777572 1\nflush\nstep 1\nflush\nexamine 772306\nflush\nstep 1\n\
+         flush\nexamine 772306\nflush\nstep 1\nflush\nexamine 772306\nflush\nstep 1\nflush\n\
+         examine 772306\nflush\n",
+        "OK\nOK\nOK\nOK\nOK\nOK\nOK\nOK\nOK\nOK\nSTOP turns 1 001004\nOK\n\
+         EXAM 772306 077506\nOK\nSTOP turns 1 001012\nOK\nEXAM 772306 077406\nOK\n\
+         STOP turns 1 001016\nOK\nEXAM 772306 077406\nOK\nSTOP turns 1 001022\nOK\n\
+         EXAM 772306 077506\nOK\n",
     ),
     (
         "the operator's write of the page's address clears it",
