@@ -4,7 +4,6 @@ ghost use Rattle.std.specs.Prelude.{◌≡◌, ◌<◌};
 mod commands;
 mod disks;
 mod lines;
-mod programs;
 mod refused_growths;
 mod refused_packs;
 mod stores;

@@ -10,7 +10,7 @@ use std::alloc::{AllocError, AllocFailed};
 pub enum Cause {
     /// The script's end.
     Done,
-    /// Help was asked for: its text.
+    /// Help or the version was asked for: its text.
     Help(String),
     /// The command line is refused: why, and how to write it.
     Usage(String),

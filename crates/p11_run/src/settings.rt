@@ -17,6 +17,9 @@ pub struct Launch<'a> {
     pub script: &'a str,
 }
 
+/// The version that `--version` shows.
+const VERSION: &str = "0.1.0";
+
 const MEMORY: u32 = 28;
 
 const LINES: u32 = 1024;
@@ -41,6 +44,7 @@ fn command<'a>(alloc: Global) -> Result<Command<'a>, AllocError> {
         .required(true)
         .help("The operator's script");
     Command::new(alloc, "p11")
+        .version(VERSION)
         .about("A PDP-11/40 under an operator's script")
         .arg(memory)?
         .arg(lines)?

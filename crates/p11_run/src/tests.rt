@@ -1,25 +1,3 @@
-// What the program answers to command lines, and what its sessions write for whole scripts.
-mod aborts;
-mod addressing;
-mod branches;
+// What the program answers to command lines, and its store of files.
 mod command_line;
-mod devices;
-mod disks;
-mod faults;
 mod files;
-mod instructions;
-mod jumps;
-mod management;
-mod mapped;
-mod page_tables;
-mod pages;
-mod register_operands;
-mod service_aborts;
-mod sessions;
-mod spaces;
-mod stack;
-mod status;
-mod tapes;
-mod trace;
-mod traps;
-mod trials;

@@ -103,7 +103,21 @@ fn help_ends_with_0(rt: HostRuntime) -> Result<(), Fail> {
             "A PDP-11/40 under an operator's script\n\nUsage: p11 [OPTIONS] <SCRIPT>\n"
         )
     );
-    assert!(rt; said.ends_with("-h, --help        Print help\n"));
+    assert!(rt;
+        said.ends_with("-h, --help        Print help\n  -V, --version     Print version\n")
+    );
+    Ok(())
+}
+
+#[test]
+fn the_version_ends_with_0(rt: HostRuntime) -> Result<(), Fail> {
+    for word in ["--version", "-V"] {
+        let Some(cause) = cause(rt.alloc(), &[word])? else {
+            return Err(Fail::from(AllocError));
+        };
+        assert!(rt; matches!(&cause, Cause::Help(_)));
+        assert_eq!(rt; ending(&cause), (0, "p11 0.1.0\n"));
+    }
     Ok(())
 }
 

@@ -1,0 +1,57 @@
+//! The program `p11_sessions`: plays sessions that are written down with their answers, and says where they differ.
+//!
+//! `p11_sessions FILE..` plays the examples of each file (see `Examples`) and prints how many there are. Each is played on
+//! machines that keep 0, 1, 1,024 and 4,096 decoded words, by itself and with the kept words dropped behind each of its
+//! lines: the answers are the same. Where they aren't what is written down, it prints the example, what is written down
+//! and what was answered instead, and ends with status 1.
+#![tactic(auto)]
+
+ghost use Rattle.std.specs.Prelude.{◌≡◌, ◌<◌};
+
+mod examples;
+mod outline;
+mod playing;
+mod transcript;
+mod wrong;
+
+use crate::examples::Examples;
+use crate::wrong::Wrong;
+use std::process::ExitCode;
+use std::{env, fs, io};
+
+fn main(rt: HostRuntime) -> ExitCode {
+    match play_files(&rt) {
+        Ok(true) => ExitCode::SUCCESS,
+        Ok(false) => ExitCode::FAILURE,
+        Err(_) => {
+            let _ = rt.eprint("p11_sessions: a file can't be read, or there is no memory\n");
+            ExitCode::from(2)
+        }
+    }
+}
+
+/// Plays the examples of each file that the command line names; whether all are answered as they are written down.
+fn play_files(rt: &HostRuntime) -> io::Result<bool> {
+    let mut is_right = true;
+    for path in env::args(rt)?.skip(1) {
+        let text = fs::read_to_string(rt, path.as_str())?;
+        match play_text(rt, text.as_str()) {
+            Ok(count) => println!(rt; "{path}: {count} examples")?,
+            Err(wrong) => {
+                println!(rt; "{path}: {wrong}")?;
+                is_right = false;
+            }
+        }
+    }
+    Ok(is_right)
+}
+
+/// Plays the examples of a file's text; how many there are.
+fn play_text(rt: &HostRuntime, text: &str) -> Result<u32, Wrong> {
+    let mut examples = Examples::new(rt.alloc());
+    for line in text.lines() {
+        examples.take(rt.alloc(), line)?;
+    }
+    examples.finish(rt.alloc())?;
+    Ok(examples.count())
+}
