@@ -1,13 +1,36 @@
-//! How a program of one's own runs the machine: by a list of commands, and by a script.
+//! How a program of one's own runs the machine: by a list of commands, and by a script. It prints what R0 holds when
+//! two words were added, and what a session of three lines answers.
 #![tactic(auto)]
 ghost use Rattle.std.specs.Prelude.{◌≡◌, ◌<◌};
 
 use p11_panel::{Answer, Command, Config, MemoryStore, NoMemory, Panel, Store, Words, play, session};
 use std::alloc::{AllocError, Global};
+use std::io;
+use std::marker::Brand;
+use std::process::ExitCode;
 use std::sync::ledger::{Blank, Ledger};
 
-#[cfg(test)]
-mod tests;
+fn main(rt: HostRuntime) -> ExitCode {
+    match show(&rt) {
+        Ok(()) => ExitCode::SUCCESS,
+        Err(_) => ExitCode::FAILURE,
+    }
+}
+
+/// Prints what both examples give.
+fn show(rt: &HostRuntime) -> io::Result<()> {
+    if let Ok(Some(sum)) = sum(rt.alloc(), 5, 7) {
+        println!(rt; "5 and 7 are {sum}")?;
+    }
+    let pack: (&[u8], &[u8]) = (b"pack", &[0o240, 0]);
+    let script = b"mount 0 pack ro\nmount 0 pack ro\nexamine 1000\n";
+    if let Ok(written) = answers(rt.alloc(), pack, script) {
+        if let Ok(text) = str::from_utf8(written.as_slice()) {
+            rt.print(text)?;
+        }
+    }
+    Ok(())
+}
 
 /// The commands that add two words on a machine: MOV #left,R0; ADD #right,R0; HALT, from address 1000 on.
 fn adding(alloc: Global, left: u16, right: u16) -> Result<Vec<Command>, AllocError> {
@@ -25,7 +48,7 @@ fn adding(alloc: Global, left: u16, right: u16) -> Result<Vec<Command>, AllocErr
 }
 
 /// What R0 holds when a new machine has added two words, if the machine showed its registers.
-pub fn sum(alloc: Global, left: u16, right: u16) -> Result<Option<u16>, NoMemory> {
+fn sum(alloc: Global, left: u16, right: u16) -> Result<Option<u16>, NoMemory> {
     let Ok(config) = Config::new(28, 1024) else {
         return Ok(None);
     };
@@ -39,7 +62,12 @@ pub fn sum(alloc: Global, left: u16, right: u16) -> Result<Option<u16>, NoMemory
 
 /// All that the session over a script writes, on a new machine, with one file in its store. Nothing is written where
 /// the store didn't take the file.
-pub fn answers<L: Ledger>(
+fn answers(alloc: Global, file: (&[u8], &[u8]), script: &[u8]) -> Result<Vec<u8>, NoMemory> {
+    answers_counted::<Brand>(alloc, Blank::new(1), file, script)
+}
+
+/// The same, with a store whose refusals are counted from a blank on.
+fn answers_counted<L: Ledger>(
     alloc: Global,
     blank: Blank,
     file: (&[u8], &[u8]),
