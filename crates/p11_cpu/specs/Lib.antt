@@ -1,6 +1,8 @@
 pub mod Words
 pub mod State
 pub mod Prepared
+pub mod Agreement
+pub mod Decoded
 pub mod Step
 pub mod Registers
 pub mod References

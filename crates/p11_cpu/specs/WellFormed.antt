@@ -1,4 +1,5 @@
--- What holds of the state of every machine: each word has 16 bits, and each part has its size.
+-- What holds of the state of every machine: its registers and the words of its memory have 16 bits, memory ends before
+-- the I/O page, and memory management has eight pages in each space.
 use Rattle.std.specs.Prelude.{◌≡◌, ◌<◌, All, length}
 use Rattle.p11_kt11.specs.Management.{IsManagement}
 use Rattle.p11_unibus.specs.State.{IsMemory}

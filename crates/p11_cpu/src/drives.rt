@@ -35,7 +35,7 @@ impl<A: Allocator> Hardware<A> {
     pub fn busy(&self, n: usize) -> bool
         ensures { result ≡ is_busy n self.now.bus.disk }
     {
-        self.bus.busy(n)
+        self.bus.unibus().busy(n)
     }
 
     /// The pack of a drive, if one is mounted.
@@ -43,6 +43,6 @@ impl<A: Allocator> Hardware<A> {
         ensures contents { contents_lent (option_copied result) ≡ contents_of (drive_of self.now.bus.disk n) }
         ensures mounted { is_some result ≡ is_some (drive_of self.now.bus.disk n) }
     {
-        self.bus.drive(n)
+        self.bus.unibus().drive(n)
     }
 }

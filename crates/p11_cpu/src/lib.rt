@@ -5,6 +5,7 @@
 #![tactic(auto)]
 
 mod bus;
+mod decoded_bus;
 mod double_operand;
 mod drives;
 mod hardware;

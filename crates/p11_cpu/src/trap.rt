@@ -5,7 +5,4 @@ use p11_psw::Vector;
 pub(crate) enum Trap {
     /// The service of this vector follows.
     Through(Vector),
-    /// The kernel's stack pointer was stepped far below its limit: the fatal service follows at once. Nothing does so
-    /// yet.
-    RedStack,
 }

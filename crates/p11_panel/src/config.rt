@@ -59,8 +59,10 @@ impl Config {
     }
 
     /// How many decoded words may be kept.
+    #[tactic(auto, unfolding(crate::specs::Sizes::is_size))]
     pub fn lines(self) -> u32
-        ensures { result ≡ self.lines }
+        ensures value { result ≡ self.lines }
+        ensures range { result ≤ 4096 }
     {
         self.lines
     }

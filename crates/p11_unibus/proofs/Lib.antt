@@ -1,2 +1,3 @@
 pub mod Registers
 pub mod DeviceLaws
+pub mod Listing

@@ -57,6 +57,10 @@ read_there (Some r) b = register_after_read r b
 unfoldable pub see : ℕ → ℕ → BusState → Option ℕ
 see turn pa b = if has_word b.memory pa then Some (word_at b.memory pa) else word_there turn (register_at pa) b
 
+-- the bus once a word is stored at an address of memory
+abbrev pub with_word : ℕ → ℕ → BusState → BusState
+with_word pa word b = record b { memory = stored b.memory pa word }
+
 -- the bus once a word is written at an address in this turn; where nothing answers it stays
 unfoldable pub change : ℕ → ℕ → ℕ → BusState → BusState
 change turn pa word b =

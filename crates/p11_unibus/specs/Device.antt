@@ -1,10 +1,6 @@
 -- What is said of each device on the bus.
-use Rattle.std.specs.Prelude.{ℕ, Bool, false, ◌==◌, ◌||◌, List, [], ◌∷◌, Option}
+use Rattle.std.specs.Prelude.{ℕ, List, [], ◌∷◌, Option}
 use Rattle.p11_dl11.specs.DueTurns.{IsBefore, IsNotAfter}
-
-abbrev pub is_listed : ℕ → List ℕ → Bool
-is_listed address [] = false
-is_listed address (first ∷ others) = address == first || is_listed address others
 
 -- a turn comes after none of these due turns
 abbrev pub AfterNone : ℕ → List (Option ℕ) → Type 0

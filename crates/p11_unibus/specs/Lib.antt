@@ -2,6 +2,7 @@ pub mod Bytes
 pub mod State
 pub mod Registers
 pub mod Bus
+pub mod Written
 pub mod Acts
 pub mod Requests
 pub mod Events

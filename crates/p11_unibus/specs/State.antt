@@ -22,10 +22,12 @@ pub record Prepared : Type 0 where
   pub sectors : List (List ℕ)
   pub room : ℕ
 
--- what contracts see of a bus: all that a program or the operator may see of it, and beside it what is prepared
+-- What contracts see of a bus: all that a program or the operator may see of it, and beside it what is prepared, and the
+-- addresses of the words of memory that were written since that was last asked.
 pub record UnibusView : Type 0 where
   pub visible : BusState
   pub prepared : Prepared
+  pub written : List ℕ
 
 -- so many thousand (1,024) words of zeros, from address 0
 unfoldable pub new_memory : ℕ → Words

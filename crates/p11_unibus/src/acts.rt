@@ -1,9 +1,12 @@
 //! What the devices on the bus do in a turn, the memory that they need for it, and when they are due.
-ghost use Rattle.std.specs.Prelude.{◌≡◌, ◌<◌, ◌≤◌, ◌^◌, true, false, OnOk, IsOk};
+ghost use Rattle.std.specs.Prelude.{◌≡◌, ◌<◌, ◌≤◌, ◌^◌, [], true, false, OnOk, IsOk};
+ghost use Rattle.p11_rk11.specs.Acts.{stores_of};
 ghost use Rattle.p11_rk11.specs.View as disks;
 ghost use Rattle.p11_unibus.specs.Acts.{bus_after_disk, bus_after_line, bus_after_turn, due_of, is_due};
 ghost use Rattle.p11_unibus.specs.Prepared.{IsPreparedFor, disk_view, needs_memory, types_in};
+ghost use Rattle.p11_unibus.specs.Written.{ChangedOnly};
 
+use crate::laws::the_acts_write_words_of_a_disk_read_alone;
 use crate::unibus::Unibus;
 use std::alloc::{AllocError, Allocator};
 
@@ -27,6 +30,7 @@ impl<A: Allocator> Unibus<A> {
         ensures visible { self.new.visible ≡ self.old.visible }
         ensures ok { OnOk result (IsPreparedFor turn self.new.visible self.new.prepared) }
         ensures needless { needs_memory turn self.old.visible ≡ false → IsOk result }
+        ensures written { self.new.written ≡ self.old.written }
     {
         self.typed.prepare(self.line.types_in(turn))?;
         self.disk.prepare(turn)
@@ -39,28 +43,37 @@ impl<A: Allocator> Unibus<A> {
         requires room { types_in turn self.old.visible ≡ true → 0 < self.old.prepared.room }
         ensures visible { self.new.visible ≡ bus_after_line turn self.old.visible }
         ensures disk { disk_view self.new.visible self.new.prepared ≡ disk_view self.old.visible self.old.prepared }
+        ensures written { self.new.written ≡ self.old.written }
     {
         self.typed.put(self.line.act(turn));
     }
 
     /// What the disk controller does in this turn: the transfer moves its sector where one is due, and seeks that are
-    /// due finish.
+    /// due finish. All words of memory to which it may store are listed.
     #[tactic(auto, unfolding(crate::specs::Acts::bus_after_disk))]
     fn disk_acts(&mut self, turn: u64)
         requires turn { turn ≤ 2 ^ 62 }
         requires prepared { disks.IsPreparedFor turn (disk_view self.old.visible self.old.prepared) }
-        ensures { self.new.visible ≡ bus_after_disk turn self.old.visible }
+        requires nothing { self.old.written ≡ [] }
+        ensures state { self.new.visible ≡ bus_after_disk turn self.old.visible }
+        ensures written { self.new.written ≡ stores_of turn self.old.visible.disk }
     {
+        self.written.note_all(&self.disk.stores(turn));
         self.disk.act(turn, &mut self.memory);
     }
 
-    /// What the devices do in this turn, each in its place: the receiver, the transmitter, the disk controller.
+    /// What the devices do in this turn, each in its place: the receiver, the transmitter, the disk controller. It wants
+    /// an empty list of written words, and lists all words of memory to which a disk read may store.
     #[tactic(auto, unfolding(crate::specs::Acts::bus_after_turn))]
     pub fn devices_act(&mut self, turn: u64)
         requires turn { turn ≤ 2 ^ 62 }
         requires prepared { IsPreparedFor turn self.old.visible self.old.prepared }
-        ensures { self.new.visible ≡ bus_after_turn turn self.old.visible }
+        requires nothing { self.old.written ≡ [] }
+        ensures state { self.new.visible ≡ bus_after_turn turn self.old.visible }
+        ensures written { self.new.written ≡ stores_of turn self.old.visible.disk }
+        ensures changed { ChangedOnly self.new.written self.old.visible.memory self.new.visible.memory }
     {
+        the_acts_write_words_of_a_disk_read_alone();
         self.line_acts(turn);
         self.disk_acts(turn);
     }

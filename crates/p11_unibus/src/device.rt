@@ -1,6 +1,7 @@
 ghost use Rattle.std.specs.Prelude.{◌≡◌, ◌∷◌, [], ℕ, Bool, List, Option, is_some};
 ghost use Rattle.p11_rk11.specs.Memory.{Words};
-ghost use Rattle.p11_unibus.specs.Device.{AfterNone, BeforeEach, is_listed};
+ghost use Rattle.p11_unibus.specs.Device.{AfterNone, BeforeEach};
+ghost use Rattle.p11_unibus.specs.Written.{is_listed};
 
 use p11_dl11::Dl11;
 use p11_kw11::Kw11;
@@ -60,7 +61,7 @@ impl Device for Kw11 {
         self.init();
     }
 
-    #[tactic(auto, unfolding(p11_kw11::specs::LineClock::register_at))]
+    #[tactic(auto, unfolding(p11_kw11::specs::LineClock::register_at, crate::specs::Written::is_listed))]
     fn answers_its_own() {}
 
     fn is_due_later() {}
@@ -89,7 +90,7 @@ impl<A: Allocator> Device for Dl11<A> {
         self.init();
     }
 
-    #[tactic(auto, unfolding(p11_dl11::specs::Addresses::register_at))]
+    #[tactic(auto, unfolding(p11_dl11::specs::Addresses::register_at, crate::specs::Written::is_listed))]
     fn answers_its_own() {}
 
     fn is_due_later() {}
@@ -117,7 +118,7 @@ impl<A: Allocator> Device for Rk11<A> {
         self.init();
     }
 
-    #[tactic(auto, unfolding(p11_rk11::specs::Registers::register_at))]
+    #[tactic(auto, unfolding(p11_rk11::specs::Registers::register_at, crate::specs::Written::is_listed))]
     fn answers_its_own() {}
 
     fn is_due_later() {

@@ -1,14 +1,16 @@
 ghost use Rattle.std.specs.Prelude.{◌≡◌, ◌%◌, ◌≤◌, ◌<◌, ℕ, false};
 ghost use Rattle.p11_unibus.specs.Acts.{bus_after_turn, is_due};
+ghost use Rattle.p11_rk11.specs.Acts.{stores_of};
 ghost use Rattle.p11_rk11.specs.Memory.{has_word};
 ghost use Rattle.p11_unibus.specs.Bytes.{byte_at, with_byte};
 ghost use Rattle.p11_unibus.specs.Bus.{answers};
 ghost use Rattle.p11_unibus.specs.Laws.{GrantsNoneLower, ShowsThere, StaysElsewhere};
 ghost use Rattle.p11_unibus.specs.State.{BusState, io_page, new_memory};
+ghost use Rattle.p11_unibus.specs.Written.{ChangedOnly};
 
 use crate::source::Source;
 use p11_psw::Priority;
-use p11_rk11::nothing_happens_before_due;
+use p11_rk11::{memory_stays, nothing_happens_before_due, words_that_stay};
 
 /// Memory of 124 thousand (1,024) words at most has no word on the I/O page.
 #[tactic(auto, unfolding(crate::specs::State::new_memory, p11_rk11::specs::Memory::has_word))]
@@ -50,4 +52,13 @@ pub fn nothing_happens_where_nothing_is_due()
     ensures { (b : BusState) (turn later : ℕ) → turn < later → is_due turn b ≡ false → bus_after_turn later b ≡ b }
 {
     nothing_happens_before_due();
+}
+
+/// The acts of a turn write no words of memory but those to which a disk read that is due stores.
+#[tactic(auto, unfolding(crate::specs::Acts::bus_after_turn, crate::specs::Acts::bus_after_line, crate::specs::Acts::bus_after_disk))]
+pub fn the_acts_write_words_of_a_disk_read_alone()
+    ensures { (b : BusState) (turn : ℕ) → ChangedOnly (stores_of turn b.disk) b.memory (bus_after_turn turn b).memory }
+{
+    memory_stays();
+    words_that_stay();
 }

@@ -18,6 +18,7 @@ mod requests;
 mod source;
 mod typed;
 mod unibus;
+mod written;
 
 pub use acts::DueTurns;
 pub use bytes::{TimeOut, byte_of, replace_byte, word_of};
@@ -26,13 +27,14 @@ pub use devices::{BusDevices, DiskRegisters, DriveShown};
 pub use laws::{
     a_byte_is_read_back, a_word_written_to_memory_shows, an_odd_address_answers_nowhere,
     memory_ends_below_the_io_page, nothing_happens_where_nothing_is_due,
-    the_highest_request_is_granted,
+    the_acts_write_words_of_a_disk_read_alone, the_highest_request_is_granted,
 };
 pub use memory::Memory;
 pub use references::is_nothing_there;
 pub use register::Register;
 pub use source::Source;
 pub use unibus::Unibus;
+pub use written::Written;
 
 #[cfg(test)]
 mod tests;

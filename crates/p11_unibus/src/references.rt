@@ -1,5 +1,6 @@
-ghost use Rattle.std.specs.Prelude.{◌≡◌, ◌==◌, ◌≤◌, ◌^◌};
+ghost use Rattle.std.specs.Prelude.{◌≡◌, ◌==◌, ◌≤◌, ◌<◌, ◌^◌, length};
 ghost use Rattle.p11_unibus.specs.Bus.{nothing_there, read_byte_of, read_word_of, write_byte_of, write_word_of};
+ghost use Rattle.p11_unibus.specs.Written.{noted, noted_byte};
 
 use crate::bytes::{TimeOut, byte_of, replace_byte, word_of};
 use crate::unibus::Unibus;
@@ -20,7 +21,9 @@ impl<A: Allocator> Unibus<A> {
     #[tactic(auto, unfolding(crate::specs::Bus::read_word_of))]
     pub fn read_word(&mut self, turn: u64, address: u32) -> Result<u16, TimeOut>
         requires { turn ≤ 2 ^ 62 }
-        ensures { read_word_of turn address self.old.visible ≡ (self.new.visible, result) }
+        ensures outcome { read_word_of turn address self.old.visible ≡ (self.new.visible, result) }
+        ensures memory { self.new.visible.memory ≡ self.old.visible.memory }
+        ensures written { self.new.written ≡ self.old.written }
     {
         match self.read(turn, address) {
             Some(word) => Ok(word),
@@ -31,8 +34,10 @@ impl<A: Allocator> Unibus<A> {
     /// Writes a word at an address in this turn.
     #[tactic(auto, unfolding(crate::specs::Bus::write_word_of))]
     pub fn write_word(&mut self, turn: u64, address: u32, word: u16) -> Result<(), TimeOut>
-        requires { turn ≤ 2 ^ 62 }
-        ensures { write_word_of turn address word self.old.visible ≡ (self.new.visible, result) }
+        requires turn { turn ≤ 2 ^ 62 }
+        requires room { length self.old.written < 272 }
+        ensures outcome { write_word_of turn address word self.old.visible ≡ (self.new.visible, result) }
+        ensures written { self.new.written ≡ noted address self.old }
     {
         if self.write(turn, address, word) {
             Ok(())
@@ -45,7 +50,9 @@ impl<A: Allocator> Unibus<A> {
     #[tactic(auto, unfolding(crate::specs::Bus::read_byte_of))]
     pub fn read_byte(&mut self, turn: u64, address: u32) -> Result<u16, TimeOut>
         requires { turn ≤ 2 ^ 62 }
-        ensures { read_byte_of turn address self.old.visible ≡ (self.new.visible, result) }
+        ensures outcome { read_byte_of turn address self.old.visible ≡ (self.new.visible, result) }
+        ensures memory { self.new.visible.memory ≡ self.old.visible.memory }
+        ensures written { self.new.written ≡ self.old.written }
     {
         match self.read_word(turn, word_of(address)) {
             Ok(word) => Ok(byte_of(address, word)),
@@ -55,10 +62,12 @@ impl<A: Allocator> Unibus<A> {
 
     /// Writes a byte, the low one of `byte`, at an address in this turn: the word that shows there, with that byte
     /// replaced. At 777567, the high byte of the transmitter buffer, it is answered and does nothing.
-    #[tactic(auto, unfolding(crate::specs::Bus::write_byte_of))]
+    #[tactic(auto, unfolding(crate::specs::Bus::write_byte_of, crate::specs::Bus::see, crate::specs::Written::noted, crate::specs::Written::noted_byte))]
     pub fn write_byte(&mut self, turn: u64, address: u32, byte: u16) -> Result<(), TimeOut>
-        requires { turn ≤ 2 ^ 62 }
-        ensures { write_byte_of turn address byte self.old.visible ≡ (self.new.visible, result) }
+        requires turn { turn ≤ 2 ^ 62 }
+        requires room { length self.old.written < 272 }
+        ensures outcome { write_byte_of turn address byte self.old.visible ≡ (self.new.visible, result) }
+        ensures written { self.new.written ≡ noted_byte address self.old }
     {
         if is_nothing_there(address) {
             return Ok(());

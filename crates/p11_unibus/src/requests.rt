@@ -51,7 +51,9 @@ impl<A: Allocator> Unibus<A> {
     /// Drops the request of a source.
     #[tactic(auto, unfolding(crate::specs::Requests::bus_after_service))]
     fn acknowledge(&mut self, source: Source)
-        ensures { self.new.visible ≡ bus_after_service source self.old.visible }
+        ensures state { self.new.visible ≡ bus_after_service source self.old.visible }
+        ensures memory { self.new.visible.memory ≡ self.old.visible.memory }
+        ensures written { self.new.written ≡ self.old.written }
     {
         match source {
             Source::Clock => self.clock.ack(),
@@ -64,7 +66,9 @@ impl<A: Allocator> Unibus<A> {
     /// Grants the highest request above a priority, which drops it: the vector through which it interrupts.
     #[tactic(auto, unfolding(crate::specs::Requests::grant_of))]
     pub fn grant(&mut self, priority: Priority) -> Option<Vector>
-        ensures { grant_of priority self.old.visible ≡ (self.new.visible, result) }
+        ensures outcome { grant_of priority self.old.visible ≡ (self.new.visible, result) }
+        ensures memory { self.new.visible.memory ≡ self.old.visible.memory }
+        ensures written { self.new.written ≡ self.old.written }
     {
         let source = self.highest_request(priority)?;
         self.acknowledge(source);

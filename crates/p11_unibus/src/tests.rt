@@ -1,4 +1,5 @@
-//! The devices together: a disk transfer, a seek and a character in the same turns, and requests at several levels.
+//! The devices together: a disk transfer, a seek and a character in the same turns, requests at several levels, and the
+//! words of memory that were written.
 ghost use Rattle.std.specs.Prelude.{◌+◌, ◌≤◌};
 
 use crate::{DiskRegisters, DriveShown, Unibus};
@@ -13,6 +14,7 @@ fn put(rt: &impl Abort, bus: &mut Unibus, turn: u64, words: &[(u32, u16)])
     requires { turn ≤ 10000 }
 {
     for &(address, word) in words {
+        let _ = bus.written_since();
         assert_eq!(rt;
             bus.write_word(turn, address, word),
             Ok(()),
@@ -26,6 +28,7 @@ fn pass(bus: &mut Unibus, after: u64, turns: u64) -> Result<(), AllocError>
     requires { after + turns ≤ 10000 }
 {
     for turn in after + 1..after + turns + 1 {
+        let _ = bus.written_since();
         bus.prepare(turn)?;
         bus.devices_act(turn);
     }
@@ -173,5 +176,34 @@ fn init_ends_a_seek_and_leaves_the_pack(rt: HostRuntime) -> Result<(), Fail> {
     assert!(rt; !bus.busy(1));
     bus.unmount(1);
     assert_eq!(rt; bus.devices(17).drives, [None, None]);
+    Ok(())
+}
+
+#[test]
+fn written_words_are_listed_until_they_are_asked_for(rt: HostRuntime) -> Result<(), Fail> {
+    let mut bus = Unibus::new(rt.alloc(), 28)?;
+    mount(&rt, rt.alloc(), &mut bus, 0, true)?;
+    assert_eq!(rt; bus.written_since().as_slice(), [].as_slice());
+    assert!(rt; bus.write(0, 0o2000, 0o123456));
+    assert_eq!(rt; bus.take_written(), Some(0o2000));
+    assert_eq!(rt; bus.take_written(), None);
+    assert!(rt; bus.holds_byte(0o2003));
+    bus.put_byte(0o2003, 0o123);
+    assert_eq!(rt; bus.written_since().as_slice(), [0o2002].as_slice());
+    assert_eq!(rt; bus.write_byte(0, 0o2001, 1), Ok(()));
+    assert_eq!(rt; bus.written_since().as_slice(), [0o2000].as_slice());
+    // Registers are no words of memory: RKBA, RKWC, and a read of two words.
+    put(
+        &rt,
+        &mut bus,
+        0,
+        &[(0o777410, 0o4000), (0o777406, 0o177776), (0o777404, 0o5)],
+    );
+    assert_eq!(rt; bus.written_since().as_slice(), [].as_slice());
+    pass(&mut bus, 0, 47)?;
+    assert_eq!(rt; bus.written_since().as_slice(), [].as_slice());
+    pass(&mut bus, 47, 1)?;
+    assert_eq!(rt; bus.written_since().as_slice(), [0o4000, 0o4002].as_slice());
+    assert_eq!(rt; bus.written_since().as_slice(), [].as_slice());
     Ok(())
 }
