@@ -1,2 +1,3 @@
-pub mod Changed
+pub mod Keeping
+pub mod Over
 pub mod Sectors

@@ -1,24 +1,14 @@
 -- The sectors of an image, and the image that sectors make.
 use Rattle.std.proofs.Common.{min, rules, replicate, ◌≡◌, ℕ, zero, suc, ◌+◌, ◌-◌, ◌*◌, ◌<◌, ◌≤◌, arith, true, nat_eq, Bool, List, [], ◌∷◌, ◌++◌, length, take, drop, map, get_or, ap, refl, sym, ◌∙◌, eq-eqb}
 use Rattle.std.specs.List.{All, IsDistinct, list_any, range_with_len, concat}
-use Rattle.std.proofs.Math.Seq.{take-add}
-use Rattle.std.proofs.lemmas.List.{same_lists, places, append_assoc, append-nil, length-append, drop-drop, drop-replicate, drop_at, length-drop, length-replicate, length-take-le, take_all, take_at, take_more, take_rest}
+use Rattle.std.proofs.Math.Seq.{drop-append-add, take-add}
+use Rattle.std.proofs.lemmas.List.{same_lists, places, append_assoc, append-nil, length-append, drop-drop, drop-replicate, drop_at, length-drop, length-replicate, length-take-le, take_all, take_at, take_more, take_rest, take-replicate}
 use Rattle.std.proofs.lemmas.List.Elements.{All-from_get_or, All-head, All-nil, All-tail}
 use Rattle.std.proofs.lemmas.List.Folds.{list_any_at}
-use Rattle.std.proofs.lemmas.List.FromFn.{fill_by_all, get_or-map-range_with_len, get_or-range_with_len, length-map-range_with_len, length-range_with_len, map-range_with_len_more}
+use Rattle.std.proofs.lemmas.List.FromFn.{fill_by_all, get_or-map-range_with_len, get_or-range_with_len, length-map-range_with_len, length-range_with_len, map-range_with_len_more, take-map-range_with_len}
 use Rattle.p11_overlay.specs.Drive.{IsWhole, all_sectors, image_bytes, filled, mounted, sector_within, sectors_of}
-use Rattle.p11_overlay.specs.Kept.{sector_numbers}
-
--- a range of numbers has each below its end
-pub each_below : (n limit : ℕ) → n < limit → list_any (nat_eq n) (range_with_len 0 limit) ≡ true
-each_below n limit within =
-    let len : n < length (range_with_len 0 limit) = omega (arith, length-range_with_len 0 limit) in
-    let at : get_or (range_with_len 0 limit) n 0 ≡ n = get_or-range_with_len 0 limit n 0 within ∙ omega arith in
-    list_any_at (nat_eq n) (range_with_len 0 limit) n 0 len (eq-eqb n _ (sym at))
-
-pub each_is_prepared : (n : ℕ) → n < all_sectors → list_any (nat_eq n) sector_numbers ≡ true
-unfolding sector_numbers
-each_is_prepared n within = each_below n all_sectors within
+use Rattle.std.specs.Int.{div_ceil}
+use Rattle.p11_overlay.specs.Kept.{base_of}
 
 -- one more list at the end
 pub concat-push : (xss : List (List ℕ)) (xs : List ℕ) → concat (xss ++ xs ∷ []) ≡ concat xss ++ xs
@@ -58,10 +48,14 @@ pub sectors_more : (image : List ℕ) (n : ℕ) (made : List (List ℕ)) (sector
 sectors_more image n made sector so_far new =
     rw (map-range_with_len_more (sector_within (filled image)) 0 n n (omega arith), so_far, new) refl
 
--- the sectors made one after another, once there are all
-pub sectors_made : (image : List ℕ) (n : ℕ) (made : List (List ℕ)) → n ≡ all_sectors → made ≡ map (sector_within (filled image)) (range_with_len 0 n) → made ≡ sectors_of image
-unfolding sectors_of
-sectors_made image n made all so_far = so_far ∙ ap (λ (k : ℕ). map (sector_within (filled image)) (range_with_len 0 k)) all
+-- the sectors made one after another, once there are all that have bytes of the image
+pub sectors_made : (image : List ℕ) (n count : ℕ) (made : List (List ℕ)) → n ≡ count → count ≡ div_ceil (length image) 512 → length image ≤ image_bytes → made ≡ map (sector_within (filled image)) (range_with_len 0 n) → made ≡ base_of image
+unfolding base_of sectors_of
+sectors_made image n count made all is_count fits so_far =
+    let within : count ≤ all_sectors = omega arith in
+    so_far ∙ ap (λ (k : ℕ). map (sector_within (filled image)) (range_with_len 0 k)) all
+    ∙ sym (take-map-range_with_len (sector_within (filled image)) 0 all_sectors count within)
+    ∙ ap (λ (k : ℕ). take k (map (sector_within (filled image)) (range_with_len 0 all_sectors))) is_count
 
 pub length-filled : (image : List ℕ) → length image ≤ image_bytes → length (filled image) ≡ image_bytes
 unfolding filled
@@ -72,6 +66,20 @@ length-filled image fits =
 pub length-sector_within : (bytes : List ℕ) (n : ℕ) → n * 512 + 512 ≤ length bytes → length (sector_within bytes n) ≡ 512
 length-sector_within bytes n within =
     length-take-le 512 (drop (n * 512) bytes) (omega (arith, length-drop (n * 512) bytes))
+
+-- a sector behind the image's last byte
+past_bytes : (image : List ℕ) (at zeros : ℕ) → length image ≤ at → at + 512 ≤ length image + zeros → take 512 (drop at (image ++ replicate zeros 0)) ≡ replicate 512 0
+past_bytes image at zeros past within =
+    let from : at ≡ length image + (at - length image) = omega arith in
+    let behind : drop at (image ++ replicate zeros 0) ≡ drop (at - length image) (replicate zeros 0) =
+    ap (λ (k : ℕ). drop k (image ++ replicate zeros 0)) from ∙ drop-append-add image (replicate zeros 0) (at - length image) in
+    let left : drop (at - length image) (replicate zeros 0) ≡ replicate (zeros - (at - length image)) 0 = drop-replicate {X = ℕ} (at - length image) zeros 0 in
+    let enough : 512 ≤ zeros - (at - length image) = omega arith in
+    rw (behind, left) (take-replicate {X = ℕ} 512 (zeros - (at - length image)) 0 enough)
+
+pub sector_past : (image : List ℕ) (n : ℕ) → length image ≤ n * 512 → n < all_sectors → length image ≤ image_bytes → sector_within (filled image) n ≡ replicate 512 0
+unfolding filled
+sector_past image n past within fits = past_bytes image (n * 512) (image_bytes - length image) past (omega arith)
 
 pub All-sector_within : (bytes : List ℕ) (n : ℕ) → n * 512 ≤ length bytes → All (λ sector. length sector ≡ 512) (map (sector_within bytes) (range_with_len 0 n))
 All-sector_within bytes n within =

@@ -1,4 +1,4 @@
--- An RK05 drive with a pack on it: what the pack holds, and which sectors may be written.
+-- An RK05 drive with a pack on it: what the pack holds, and which sectors may be written without taking memory.
 -- A pack has 203 cylinders of 2 surfaces of 12 sectors of 512 bytes, which are numbered in that order: by cylinder,
 -- then by surface, then by sector.
 use Rattle.std.specs.Prelude.{◌≡◌, ℕ, ◌-◌, ◌*◌, ◌<◌, Bool, IsTrue, nat_eq, List, [], ◌∷◌, ◌++◌, length, take, drop, map, replicate, slice_set, slice_index_or, All, if◌then◌else◌}

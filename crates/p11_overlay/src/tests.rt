@@ -1,63 +1,19 @@
 use crate::{ALL_SECTORS, Drive, IMAGE_BYTES, SECTOR_BYTES};
 use linked_list_allocator::LocalHeap;
-use std::alloc::{AllocError, Allocator};
-use std::process::Abort;
 use std::test::Fail;
-
-/// The bytes of the sectors and of the list of changed sectors.
-const SECTORS_ALONE: usize = 2_494_464;
-
-const LIST_ALONE: usize = 9_744;
-
-/// Bytes of which no two sectors have the same, and none is 0.
-fn image_of_len<A: Allocator>(alloc: A, len: usize) -> Result<Vec<u8, A>, AllocError> {
-    let mut image = vec![in alloc; 0u8; len]?;
-    for (i, byte) in image.iter_mut().enumerate() {
-        *byte = byte_at(i, len);
-    }
-    Ok(image)
-}
-
-/// The byte at a place of the pack on which such an image was mounted.
-fn byte_at(i: usize, len: usize) -> u8 {
-    if i < len { (i % 251) as u8 + 1 } else { 0 }
-}
-
-fn assert_mounted(rt: &impl Abort, saved: &[u8], len: usize) {
-    assert_eq!(rt; saved.len(), 2_494_464);
-    for (i, byte) in saved.iter().enumerate() {
-        assert_eq!(rt;
-            *byte,
-            byte_at(i, len),
-            "byte {i} of an image of {len} bytes"
-        );
-    }
-}
 
 #[test]
 fn zeros_stand_behind_an_image(rt: HostRuntime) -> Result<(), Fail> {
     for len in [0, 1, 511, 512, 513, 2_494_464] {
-        let image = image_of_len(rt.alloc(), len)?;
+        let image = vec![in rt.alloc(); 5u8; len]?;
         assert!(rt; image.len() <= IMAGE_BYTES);
-        let drive = Drive::mount(rt.alloc(), &image, false)?;
-        assert_eq!(rt; drive.changed(), [].as_slice());
-        assert_mounted(&rt, &drive.image(rt.alloc())?, len);
+        let saved = Drive::mount(rt.alloc(), &image, false)?.image(rt.alloc())?;
+        assert_eq!(rt; saved.len(), IMAGE_BYTES);
+        for (i, byte) in saved.iter().enumerate() {
+            assert_eq!(rt; *byte == 5, i < len);
+            assert_eq!(rt; *byte == 0, i >= len);
+        }
     }
-    Ok(())
-}
-
-#[test]
-fn an_image_of_513_bytes_reaches_into_the_second_sector(rt: HostRuntime) -> Result<(), Fail> {
-    let image = vec![in rt.alloc(); 0xff; 513]?;
-    assert_eq!(rt; image.len(), 513);
-    let drive = Drive::mount(rt.alloc(), &image, true)?;
-    assert!(rt; drive.protected());
-    assert_eq!(rt; drive.sector(0), [0xff; 512].as_slice());
-    let mut second = [0; 512];
-    second[0] = 0xff;
-    assert_eq!(rt; drive.sector(1), second.as_slice());
-    assert_eq!(rt; drive.sector(2), [0; 512].as_slice());
-    assert_eq!(rt; drive.sector(4871), [0; 512].as_slice());
     Ok(())
 }
 
@@ -86,61 +42,67 @@ fn sectors_are_listed_in_the_order_of_their_first_writes(rt: HostRuntime) -> Res
 }
 
 #[test]
-fn all_sectors_are_written_on_a_full_heap(rt: HostRuntime) -> Result<(), Fail> {
-    let heap = LocalHeap::new(rt.alloc(), SECTORS_ALONE + LIST_ALONE)?;
+fn all_sectors_are_written_without_memory(rt: HostRuntime) -> Result<(), Fail> {
+    let heap = LocalHeap::new(rt.alloc(), 16_000_000)?;
     let mut drive = Drive::mount(&heap, &[], false)?;
-    assert!(rt; Vec::<u8, &LocalHeap>::with_capacity(&heap, 1).is_err());
+    assert_eq!(rt; heap.used(), 0);
+    for n in 0..ALL_SECTORS {
+        drive.prepare(n)?;
+    }
+    assert!(rt; drive.changed().is_empty());
+    let used = heap.used();
     for round in [1, 2] {
         for n in (0..ALL_SECTORS).rev() {
             drive.prepare(n)?;
             drive.write(n, &[round; SECTOR_BYTES]);
         }
-        assert_eq!(rt; drive.changed().len(), 4872);
     }
+    assert_eq!(rt; heap.used(), used);
+    assert_eq!(rt; drive.changed().len(), 4872);
     for (i, n) in drive.changed().iter().enumerate() {
         assert!(rt; i < 4872);
         assert_eq!(rt; usize::from(*n), 4871 - i);
     }
-    assert_eq!(rt; drive.sector(0), [2; 512].as_slice());
+    assert_eq!(rt; drive.sector(0)[511], 2);
     Ok(())
 }
 
 #[test]
-fn a_mount_is_refused_at_each_growth(rt: HostRuntime) -> Result<(), Fail> {
-    for size in [
-        16,
-        SECTORS_ALONE - 16,
-        SECTORS_ALONE,
-        SECTORS_ALONE + LIST_ALONE - 16,
-    ] {
+fn a_mount_takes_the_image_in_whole_sectors(rt: HostRuntime) -> Result<(), Fail> {
+    for (len, size) in [(1, 512), (513, 1024), (1000, 1024), (2_494_464, 2_494_464)] {
+        let image = vec![in rt.alloc(); 1u8; len]?;
+        assert!(rt; image.len() <= IMAGE_BYTES);
+        let small = LocalHeap::new(rt.alloc(), size - 16)?;
+        assert!(rt; Drive::mount(&small, &image, false).is_err());
+        assert_eq!(rt; small.used(), 0);
         let heap = LocalHeap::new(rt.alloc(), size)?;
-        assert!(rt;
-            Drive::mount(&heap, &[5], false).is_err(),
-            "on a heap of {size} bytes"
-        );
-        assert_eq!(rt; heap.used(), 0);
+        let drive = Drive::mount(&heap, &image, false)?;
+        assert_eq!(rt; heap.used(), size);
+        assert_eq!(rt; drive.sector(0)[0], 1);
     }
-    let heap = LocalHeap::new(rt.alloc(), SECTORS_ALONE + LIST_ALONE)?;
-    let drive = Drive::mount(&heap, &[5; 512], false)?;
-    assert_eq!(rt; drive.sector(0), [5; 512].as_slice());
-    assert_eq!(rt; drive.sector(1), [0; 512].as_slice());
     Ok(())
 }
 
 #[test]
-fn an_image_is_refused_and_then_found(rt: HostRuntime) -> Result<(), Fail> {
-    let heap = LocalHeap::new(rt.alloc(), SECTORS_ALONE + LIST_ALONE + IMAGE_BYTES)?;
-    let mut drive = Drive::mount(&heap, &[5], false)?;
-    drive.prepare(4871)?;
-    drive.write(4871, &[6; 512]);
-    let ballast = Vec::<u8, &LocalHeap>::with_capacity(&heap, 16)?;
-    assert!(rt; drive.image(&heap).is_err());
-    assert_eq!(rt; drive.changed(), [4871].as_slice());
-    drop(ballast);
-    let saved = drive.image(&heap)?;
-    assert_eq!(rt; saved.len(), 2_494_464);
-    assert_eq!(rt; saved[0], 5);
-    assert_eq!(rt; saved[1], 0);
-    assert_eq!(rt; saved[2_494_463], 6);
+fn a_sector_is_refused_at_each_growth_and_then_found(rt: HostRuntime) -> Result<(), Fail> {
+    let mut refused = 0u32;
+    for spare in (0..12_288).step_by(64) {
+        let heap = LocalHeap::new(rt.alloc(), 16_384)?;
+        let mut drive = Drive::mount(&heap, &[7; 1000], false)?;
+        let ballast = Vec::<u8, &LocalHeap>::with_capacity(&heap, 16_384 - 1024 - spare)?;
+        if drive.prepare(1).is_err() {
+            assert!(rt; refused < 192);
+            refused += 1;
+        }
+        assert!(rt; drive.changed().is_empty());
+        assert_eq!(rt; drive.sector(1)[487], 7);
+        drop(ballast);
+        drive.prepare(1)?;
+        drive.write(1, &[9; 512]);
+        assert_eq!(rt; drive.changed().len(), 1);
+        assert_eq!(rt; drive.sector(0)[511], 7);
+        assert_eq!(rt; drive.sector(1)[488], 9);
+    }
+    assert!(rt; refused > 64 && refused < 192);
     Ok(())
 }

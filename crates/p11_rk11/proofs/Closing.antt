@@ -4,7 +4,7 @@ use Rattle.std.proofs.lemmas.List.{length-set}
 use Rattle.p11_rk11.specs.declared.registers.Registers.{Registers}
 use Rattle.p11_rk11.specs.Acts.{after_seek_on, after_sector_on, disk_after_seek}
 use Rattle.p11_rk11.specs.Drives.{MountedDrive, MountedState}
-use Rattle.p11_rk11.specs.Laws.{IsReachable}
+use Rattle.p11_rk11.specs.Laws.{TransferHasPlace}
 use Rattle.p11_rk11.specs.Memory.{Words}
 use Rattle.p11_rk11.specs.Place.{is_on_disk}
 use Rattle.p11_rk11.specs.Registers.{is_due}
@@ -15,7 +15,7 @@ use Rattle.p11_rk11.proofs.Parts.{drive_changed, drive_mapped, part_changed, sel
 use Rattle.p11_rk11.proofs.Reachable.{idle, same_registers, changed_reachable, reachable_after_unmount, seek_acted, started_on, moved_on, due_runs, there_number}
 
 abbrev pub Kept : Registers → List (Option MountedState) → Type 0
-Kept r drives = (length drives ≡ drive_count) × IsReachable (view_of r drives).state
+Kept r drives = (length drives ≡ drive_count) × TransferHasPlace (view_of r drives).state
 
 pub kept_registers : (r r' : Registers) (drives : List (Option MountedState)) → r'.transfer ≡ r.transfer → r'.disk_address ≡ r.disk_address → Kept r drives → Kept r' drives
 kept_registers r r' drives transfer place h = (h.0, same_registers (view_of r drives).state r' transfer place h.1)
@@ -25,9 +25,9 @@ kept_idle r drives none len = (len, idle (view_of r drives).state none)
 
 -- one drive was changed
 kept_drive : (r : Registers) (drives : List (Option MountedState)) (n : ℕ) (b : Option MountedState) (t : Rk11State) → length drives ≡ drive_count
-    → (view_of r (set drives n b)).state ≡ t → IsReachable t → Kept r (set drives n b)
+    → (view_of r (set drives n b)).state ≡ t → TransferHasPlace t → Kept r (set drives n b)
 kept_drive r drives n b t len is h =
-    let P : Rk11State → Type 0 = λ t. IsReachable t in
+    let P : Rk11State → Type 0 = λ t. TransferHasPlace t in
     (length-set drives n b ∙ len, subst P (sym is) h)
 
 pub kept_mounted : (r : Registers) (drives : List (Option MountedState)) (n : ℕ) (m : MountedState) → n < drive_count → Kept r drives → Kept r (set drives n (Some m))

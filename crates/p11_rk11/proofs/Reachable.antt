@@ -13,7 +13,7 @@ use Rattle.p11_rk11.specs.declared.registers.Registers.{Registers}
 use Rattle.p11_rk11.specs.Acts.{disk_after_turn, disk_after_transfer, disk_after_seek, disk_after_seeks, after_seek_on, after_sector_on, after_sector, registers_after_seek, is_refused, differs}
 use Rattle.p11_rk11.specs.Drives.{MountedDrive}
 use Rattle.p11_rk11.specs.Functions.{uses_place, is_reset}
-use Rattle.p11_rk11.specs.Laws.{IsReachable}
+use Rattle.p11_rk11.specs.Laws.{TransferHasPlace}
 use Rattle.p11_rk11.specs.Memory.{Words}
 use Rattle.p11_rk11.specs.Place.{Place, is_on_disk, next_place}
 use Rattle.p11_rk11.specs.Registers.{is_due, is_ready, ended, failed, requested, cleared_registers, with_enable, with_control, enable_rises, bit_of, registers_after_sector, next_sector_or_end, counters_advanced, with_difference, words_left}
@@ -30,18 +30,18 @@ registers_put : (s : Rk11State) (n : ℕ) (parts : Registers × Option MountedDr
 unfolding with_registers_and_drive
 registers_put s n parts = refl
 
-pub idle : (s : Rk11State) → s.registers.transfer ≡ None → IsReachable s
+pub idle : (s : Rk11State) → s.registers.transfer ≡ None → TransferHasPlace s
 idle s none run = absurd (both_ways _ (ap (λ (o : Option ℕ). is_some o) none) run)
 
 same : (s t : Rk11State) → t.registers.transfer ≡ s.registers.transfer → t.registers.disk_address ≡ s.registers.disk_address
-    → (is_some (selected s) ≡ true → is_some (selected t) ≡ true) → IsReachable s → IsReachable t
+    → (is_some (selected s) ≡ true → is_some (selected t) ≡ true) → TransferHasPlace s → TransferHasPlace t
 same s t transfer place there h run =
     let before = h (ap (λ (o : Option ℕ). is_some o) (sym transfer) ∙ run) in
     (ap is_on_disk place ∙ before.0, there before.1)
 
 -- the registers alone are changed
 pub same_registers : (s : Rk11State) (r : Registers) → r.transfer ≡ s.registers.transfer → r.disk_address ≡ s.registers.disk_address
-    → IsReachable s → IsReachable (record s { registers = r })
+    → TransferHasPlace s → TransferHasPlace (record s { registers = r })
 unfolding drive_of
 same_registers s r transfer place h =
     same s (record s { registers = r }) transfer place
@@ -58,7 +58,7 @@ there_number s n there =
 -- the registers and the selected drive are changed together
 running : (s : Rk11State) (r : Registers) (drive : MountedDrive) → is_some (selected s) ≡ true → r.disk_address.drive ≡ s.registers.disk_address.drive
     → (is_some r.transfer ≡ true → is_on_disk r.disk_address ≡ true)
-    → IsReachable (with_registers_and_drive s s.registers.disk_address.drive (r, Some drive))
+    → TransferHasPlace (with_registers_and_drive s s.registers.disk_address.drive (r, Some drive))
 unfolding with_registers_and_drive
 running s r drive there number placed run =
     let n : ℕ = s.registers.disk_address.drive in (
@@ -92,8 +92,8 @@ begun turn ReadCheck drive r before place = (refl, λ run. place refl)
 begun turn DriveReset drive r before place = (refl, λ run. not_running None refl run)
 begun turn WriteLock drive r before place = (refl, λ run. not_running None refl run)
 
-after_checks : (turn : ℕ) (s : Rk11State) (drive : MountedDrive) (c : Option Failure) → drive_check s.registers drive ≡ c → selected s ≡ Some drive → IsReachable s
-    → IsReachable (with_registers_and_drive s s.registers.disk_address.drive ((after_check turn s.registers drive c).0, Some (after_check turn s.registers drive c).1))
+after_checks : (turn : ℕ) (s : Rk11State) (drive : MountedDrive) (c : Option Failure) → drive_check s.registers drive ≡ c → selected s ≡ Some drive → TransferHasPlace s
+    → TransferHasPlace (with_registers_and_drive s s.registers.disk_address.drive ((after_check turn s.registers drive c).0, Some (after_check turn s.registers drive c).1))
 unfolding failed ended requested
 after_checks turn s drive (Some failure) check is h =
     running s _ _ (ap (λ (d : Option MountedDrive). is_some d) is) refl (λ run. not_running None refl run)
@@ -101,16 +101,16 @@ after_checks turn s drive None check is h =
     let b = begun turn s.registers.function drive s.registers (λ run. (h run).0) (checked_place s.registers drive check) in
     running s _ _ (ap (λ (d : Option MountedDrive). is_some d) is) (ap (λ (p : Place). p.drive) b.0) (λ run. ap is_on_disk b.0 ∙ b.1 run)
 
-pub started_on : (turn : ℕ) (s : Rk11State) (d : Option MountedDrive) → selected s ≡ d → IsReachable s
-    → IsReachable (with_registers_and_drive s s.registers.disk_address.drive (after_start_on turn s.registers d))
+pub started_on : (turn : ℕ) (s : Rk11State) (d : Option MountedDrive) → selected s ≡ d → TransferHasPlace s
+    → TransferHasPlace (with_registers_and_drive s s.registers.disk_address.drive (after_start_on turn s.registers d))
 unfolding after_start with_registers_and_drive failed ended requested
 started_on turn s None is h = idle _ refl
 started_on turn s (Some drive) is h = after_checks turn s drive (drive_check s.registers drive) refl is h
 
-started : (turn : ℕ) (s : Rk11State) → s.registers.transfer ≡ None → IsReachable (disk_after_start turn s)
+started : (turn : ℕ) (s : Rk11State) → s.registers.transfer ≡ None → TransferHasPlace (disk_after_start turn s)
 unfolding disk_after_start failed ended requested
 started turn s none =
-    let P : Bool → Type 0 = λ t. IsReachable
+    let P : Bool → Type 0 = λ t. TransferHasPlace
     (if t then record s { registers = failed Programming s.registers }
     else with_registers_and_drive s s.registers.disk_address.drive (after_start_on turn s.registers (selected s))) in
     elim (cases_Bool s.registers.format) [
@@ -118,7 +118,7 @@ started turn s none =
       | inr fails ↦ subst P (sym fails) (started_on turn s (selected s) refl (idle s none))
     ]
 
-gone : (turn : ℕ) (s : Rk11State) → s.registers.transfer ≡ None → IsReachable (disk_after_go turn s)
+gone : (turn : ℕ) (s : Rk11State) → s.registers.transfer ≡ None → TransferHasPlace (disk_after_go turn s)
 unfolding disk_after_go registers_cleared_by_go cleared_registers
 gone turn s none =
     elim (cases_Bool (is_reset s.registers.function)) [
@@ -126,7 +126,7 @@ gone turn s none =
       | inr fails ↦ rw fails (started turn (record s { registers = registers_cleared_by_go s.registers }) none)
     ]
 
-control_written : (turn word : ℕ) (s : Rk11State) → IsReachable s → IsReachable (disk_after_control_write turn word s)
+control_written : (turn word : ℕ) (s : Rk11State) → TransferHasPlace s → TransferHasPlace (disk_after_control_write turn word s)
 unfolding disk_after_control_write with_enable with_control requested
 control_written turn word s h =
     elim (cases_Bool (is_ready s.registers)) [
@@ -154,7 +154,7 @@ value_kept register.BusAddress word r = refl
 value_kept register.DiskAddress word r = refl
 value_kept register.DataBuffer word r = refl
 
-value_written : (register : Register) (word : ℕ) (s : Rk11State) → IsReachable s → IsReachable (disk_after_value_write register word s)
+value_written : (register : Register) (word : ℕ) (s : Rk11State) → TransferHasPlace s → TransferHasPlace (disk_after_value_write register word s)
 unfolding disk_after_value_write
 value_written register word s h =
     elim (cases_Bool (is_ready s.registers)) [
@@ -162,7 +162,7 @@ value_written register word s h =
       | inl holds ↦ rw holds (idle _ (value_kept register word s.registers ∙ none_of s.registers.transfer holds))
     ]
 
-pub reachable_after_write : (s : Rk11State) (turn : ℕ) (register : Register) (word : ℕ) → IsReachable s → IsReachable (disk_after_write turn register word s)
+pub reachable_after_write : (s : Rk11State) (turn : ℕ) (register : Register) (word : ℕ) → TransferHasPlace s → TransferHasPlace (disk_after_write turn register word s)
 unfolding disk_after_write
 reachable_after_write s turn register.DriveStatus word h = value_written register.DriveStatus word s h
 reachable_after_write s turn register.Error word h = value_written register.Error word s h
@@ -216,7 +216,7 @@ sector_followed turn difference r on =
     (f.0 ∙ place, λ run. next_on_disk r.disk_address on (λ over. f.1 run (ap (λ (p : Place). p.cylinder) place ∙ over)))
 
 pub moved_on : (turn : ℕ) (s : Rk11State) (d : Option MountedDrive) (memory : Words) → selected s ≡ d → is_on_disk s.registers.disk_address ≡ true
-    → IsReachable (with_registers_and_drive s s.registers.disk_address.drive ((after_sector_on turn s.registers d memory).0, (after_sector_on turn s.registers d memory).1))
+    → TransferHasPlace (with_registers_and_drive s s.registers.disk_address.drive ((after_sector_on turn s.registers d memory).0, (after_sector_on turn s.registers d memory).1))
 unfolding after_sector with_registers_and_drive failed ended requested
 moved_on turn s None memory is on = idle _ refl
 moved_on turn s (Some drive) memory is on =
@@ -235,7 +235,7 @@ unfolding is_due
 due_runs turn None holds = cc holds
 due_runs turn (Some due) holds = refl
 
-transfer_acted : (s : Rk11State) (memory : Words) (turn : ℕ) → IsReachable s → IsReachable (disk_after_transfer turn s memory).0
+transfer_acted : (s : Rk11State) (memory : Words) (turn : ℕ) → TransferHasPlace s → TransferHasPlace (disk_after_transfer turn s memory).0
 unfolding disk_after_transfer
 transfer_acted s memory turn h =
     elim (cases_Bool (is_due turn s.registers.transfer)) [
@@ -264,7 +264,7 @@ still_there s r n k d keeps there =
           ∙ keeps here
     ]
 
-pub seek_acted : (turn n : ℕ) (s : Rk11State) → IsReachable s → IsReachable (disk_after_seek turn n s)
+pub seek_acted : (turn n : ℕ) (s : Rk11State) → TransferHasPlace s → TransferHasPlace (disk_after_seek turn n s)
 unfolding disk_after_seek
 seek_acted turn n s h =
     let kept = seek_kept turn n s.registers (drive_of s n) in
@@ -277,24 +277,24 @@ seek_acted turn n s h =
     ∙ still_there s _ n s.registers.disk_address.drive _ (λ here. kept.2 ∙ here) there)
     h
 
-seeks_acted : (turn n : ℕ) (s : Rk11State) → IsReachable s → IsReachable (disk_after_seeks turn n s)
+seeks_acted : (turn n : ℕ) (s : Rk11State) → TransferHasPlace s → TransferHasPlace (disk_after_seeks turn n s)
 unfolding disk_after_seeks
 seeks_acted turn zero s h = h
 seeks_acted turn (suc n) s h = seek_acted turn n (disk_after_seeks turn n s) (seeks_acted turn n s h)
 
-pub reachable_after_turn : (s : Rk11State) (memory : Words) (turn : ℕ) → IsReachable s → IsReachable (disk_after_turn turn s memory).0
+pub reachable_after_turn : (s : Rk11State) (memory : Words) (turn : ℕ) → TransferHasPlace s → TransferHasPlace (disk_after_turn turn s memory).0
 unfolding disk_after_turn
 reachable_after_turn s memory turn h = seeks_acted turn drive_count (disk_after_transfer turn s memory).0 (transfer_acted s memory turn h)
 
-pub reachable_new : IsReachable new_disk
+pub reachable_new : TransferHasPlace new_disk
 unfolding new_disk cleared_registers
 reachable_new = idle new_disk refl
 
-pub reachable_after_init : (s : Rk11State) → IsReachable (disk_after_init s)
+pub reachable_after_init : (s : Rk11State) → TransferHasPlace (disk_after_init s)
 unfolding disk_after_init cleared_registers
 reachable_after_init s = idle (disk_after_init s) refl
 
-pub reachable_after_service : (s : Rk11State) → IsReachable s → IsReachable (disk_after_service s)
+pub reachable_after_service : (s : Rk11State) → TransferHasPlace s → TransferHasPlace (disk_after_service s)
 unfolding disk_after_service
 reachable_after_service s h = same_registers s (record s.registers { request = false }) refl refl h
 
@@ -304,22 +304,22 @@ drive_put_alone s n d = elim (cases_Bool (nat_lt n drive_count)) [ inl holds ↦
 
 put_reachable : (s : Rk11State) (n : ℕ) (d : Option MountedDrive)
     → (is_some s.registers.transfer ≡ true → is_some (drive_of (with_registers_and_drive s n (s.registers, d)) s.registers.disk_address.drive) ≡ true)
-    → IsReachable s → IsReachable (with_drive s n d)
+    → TransferHasPlace s → TransferHasPlace (with_drive s n d)
 unfolding with_registers_and_drive
 put_reachable s n d there h =
-    let P : Rk11State → Type 0 = λ t. IsReachable t in
+    let P : Rk11State → Type 0 = λ t. TransferHasPlace t in
     subst P (sym (drive_put_alone s n d)) (λ run. ((h run).0, there run))
 
 -- a drive that holds a pack, if it held one before
-pub changed_reachable : (s : Rk11State) (n : ℕ) (d : Option MountedDrive) → (is_some (drive_of s n) ≡ true → is_some d ≡ true) → IsReachable s → IsReachable (with_drive s n d)
+pub changed_reachable : (s : Rk11State) (n : ℕ) (d : Option MountedDrive) → (is_some (drive_of s n) ≡ true → is_some d ≡ true) → TransferHasPlace s → TransferHasPlace (with_drive s n d)
 changed_reachable s n d keeps h =
     put_reachable s n d (λ run. still_there s s.registers n s.registers.disk_address.drive d keeps (h run).1) h
 
-pub reachable_after_mount : (s : Rk11State) (n : ℕ) (contents : Contents) → IsReachable s → IsReachable (disk_after_mount n contents s)
+pub reachable_after_mount : (s : Rk11State) (n : ℕ) (contents : Contents) → TransferHasPlace s → TransferHasPlace (disk_after_mount n contents s)
 unfolding disk_after_mount
 reachable_after_mount s n contents h = changed_reachable s n _ (λ here. refl) h
 
-pub reachable_after_unmount : (s : Rk11State) (n : ℕ) → is_busy n s ≡ false → IsReachable s → IsReachable (disk_after_unmount n s)
+pub reachable_after_unmount : (s : Rk11State) (n : ℕ) → is_busy n s ≡ false → TransferHasPlace s → TransferHasPlace (disk_after_unmount n s)
 unfolding disk_after_unmount is_busy
 reachable_after_unmount s n busy h =
     put_reachable s n None

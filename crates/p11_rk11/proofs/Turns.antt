@@ -92,6 +92,16 @@ unfolding seek_due
 no_seek turn n r None h = refl
 no_seek turn n r (Some drive) h = rw (not_due turn (seek_turn drive.seek) h) refl
 
+-- a drive whose seek isn't due stays, and so does the disk
+not_due_on : (turn n : ℕ) (r : Registers) (d : Option MountedDrive) → is_due turn (seek_due d) ≡ false → after_seek_on turn n r d ≡ (r, d)
+unfolding seek_due
+not_due_on turn n r None h = refl
+not_due_on turn n r (Some drive) h = rw h refl
+
+pub seek_not_due : (turn n : ℕ) (s : Rk11State) → is_due turn (seek_due (drive_of s n)) ≡ false → disk_after_seek turn n s ≡ s
+unfolding disk_after_seek
+seek_not_due turn n s h = rw (not_due_on turn n s.registers (drive_of s n) h) (same_registers_and_drive s n)
+
 no_seek_act : (turn n : ℕ) (s : Rk11State) → IsBefore turn (seek_due (drive_of s n)) → disk_after_seek turn n s ≡ s
 unfolding disk_after_seek
 no_seek_act turn n s h = rw (no_seek turn n s.registers (drive_of s n) h) (same_registers_and_drive s n)

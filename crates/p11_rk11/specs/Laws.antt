@@ -22,6 +22,6 @@ pub record ShowsItsBits (r : Registers) : Type 0 where
   pub error : bit_of (control_word r) 0o100000 ≡ not (error_word r.errors == 0)
 
 -- What is true of every controller: a running transfer is on a mounted drive, and at a place on its pack.
-abbrev pub IsReachable : Rk11State → Type 0
-IsReachable s =
+abbrev pub TransferHasPlace : Rk11State → Type 0
+TransferHasPlace s =
     is_some s.registers.transfer ≡ true → (is_on_disk s.registers.disk_address ≡ true) × (is_some (selected s) ≡ true)

@@ -23,7 +23,7 @@ register_at address =
     else (if address == 0o777416 then Some register.DataBuffer
     else None))))))
 
--- bit k of a word
+-- whether the bit with this weight is set in a word
 abbrev pub bit_of : ℕ → ℕ → Bool
 bit_of word weight = word / weight % 2 == 1
 

@@ -56,6 +56,7 @@ IsPreparedSector v =
 unfoldable pub IsPreparedFor : ℕ → Rk11View → Type 0
 IsPreparedFor turn v = write_is_due turn v.state ≡ true → IsPreparedSector v
 
+-- whether sector n of a drive is among the changed ones, whose writes need no memory; nor does one on an empty drive
 abbrev pub is_listed : Option MountedDrive → ℕ → Bool
 is_listed None n = true
 is_listed (Some drive) n = list_any (nat_eq n) drive.contents.changed

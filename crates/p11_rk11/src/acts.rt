@@ -129,9 +129,19 @@ impl<A: Allocator> Rk11<A> {
         }
     }
 
-    /// Finishes the seek of a drive, if one is due.
-    #[tactic(auto, unfolding(crate::specs::Acts::disk_after_seek))]
+    /// Finishes the seek of a drive, if one is due. A drive without one isn't touched.
     fn finish_seek(&mut self, turn: u64, n: usize)
+        requires { n < drive_count }
+        ensures { self.new.state ≡ disk_after_seek turn n self.old.state }
+    {
+        if is_due(turn, self.seek_due(n)) {
+            self.end_seek(turn, n);
+        }
+    }
+
+    /// Finishes the seek of a drive that is taken out and put back.
+    #[tactic(auto, unfolding(crate::specs::Acts::disk_after_seek))]
+    fn end_seek(&mut self, turn: u64, n: usize)
         requires { n < drive_count }
         ensures { self.new.state ≡ disk_after_seek turn n self.old.state }
     {

@@ -34,7 +34,7 @@ pub struct Rk11<A: Allocator = Global> {
 
 impl<A: Allocator> Model for Rk11<A> {
     ghost use Rattle.std.specs.Prelude.{◌≡◌, length};
-    ghost use Rattle.p11_rk11.specs.Laws.{IsReachable};
+    ghost use Rattle.p11_rk11.specs.Laws.{TransferHasPlace};
     ghost use Rattle.p11_rk11.specs.State.{drive_count};
     ghost use Rattle.p11_rk11.specs.View.{Rk11View, view_of};
 
@@ -42,7 +42,7 @@ impl<A: Allocator> Model for Rk11<A> {
 
     ghost view = { λ c. view_of c.registers c.drives };
 
-    ghost invariant = { λ c. (length c.drives ≡ drive_count) × IsReachable (view_of c.registers c.drives).state };
+    ghost invariant = { λ c. (length c.drives ≡ drive_count) × TransferHasPlace (view_of c.registers c.drives).state };
 }
 
 impl<A: Allocator> Rk11<A> {
@@ -326,7 +326,7 @@ impl<A: Allocator> Rk11<A> {
 
     /// The due turn of a drive's seek.
     #[tactic(auto, unfolding(crate::specs::State::seek_due))]
-    fn seek_due(&self, n: usize) -> Option<u64>
+    pub(crate) fn seek_due(&self, n: usize) -> Option<u64>
         ensures { result ≡ seek_due (drive_of self.now.state n) }
     {
         if n < DRIVES {

@@ -4,7 +4,7 @@ ghost use Rattle.p11_overlay.specs.Drive.{Contents};
 ghost use Rattle.p11_rk11.specs.declared.registers.Registers.{Registers};
 ghost use Rattle.p11_rk11.specs.Acts.{disk_after_turn, stores_of};
 ghost use Rattle.p11_rk11.specs.Functions.{is_read};
-ghost use Rattle.p11_rk11.specs.Laws.{IsReachable, ShowsItsBits};
+ghost use Rattle.p11_rk11.specs.Laws.{TransferHasPlace, ShowsItsBits};
 ghost use Rattle.p11_rk11.specs.Memory.{Words, has_word, word_at};
 ghost use Rattle.p11_rk11.specs.Place.{Place, is_on_disk, sector_number, place_of_number, next_place};
 ghost use Rattle.p11_rk11.specs.Sector.{bytes_of_words, words_of_sector};
@@ -75,15 +75,15 @@ pub fn control_status_shows_its_bits()
 /// In every state that a controller comes to, a running transfer is on a mounted drive and at a place on its pack: it
 /// is so at first, and each event keeps it, an unmount of a drive that isn't busy too.
 pub fn running_transfers_have_a_place()
-    ensures new { IsReachable new_disk }
+    ensures new { TransferHasPlace new_disk }
     ensures write { (s : Rk11State) (turn : ℕ) (register : Register) (word : ℕ)
-        → IsReachable s → IsReachable (disk_after_write turn register word s) }
+        → TransferHasPlace s → TransferHasPlace (disk_after_write turn register word s) }
     ensures acts { (s : Rk11State) (memory : Words) (turn : ℕ)
-        → IsReachable s → IsReachable (disk_after_turn turn s memory).0 }
-    ensures init { (s : Rk11State) → IsReachable (disk_after_init s) }
-    ensures service { (s : Rk11State) → IsReachable s → IsReachable (disk_after_service s) }
+        → TransferHasPlace s → TransferHasPlace (disk_after_turn turn s memory).0 }
+    ensures init { (s : Rk11State) → TransferHasPlace (disk_after_init s) }
+    ensures service { (s : Rk11State) → TransferHasPlace s → TransferHasPlace (disk_after_service s) }
     ensures mount { (s : Rk11State) (n : ℕ) (contents : Contents)
-        → IsReachable s → IsReachable (disk_after_mount n contents s) }
+        → TransferHasPlace s → TransferHasPlace (disk_after_mount n contents s) }
     ensures unmount { (s : Rk11State) (n : ℕ) → is_busy n s ≡ false
-        → IsReachable s → IsReachable (disk_after_unmount n s) }
+        → TransferHasPlace s → TransferHasPlace (disk_after_unmount n s) }
 {}

@@ -9,7 +9,7 @@ pub returns : goal.returns
 unfolding filled
 returns c =
     let start : c.min-start.result ≡ min (c.args.n * 512) (length c.args.image.now) =
-    c.min-start.ensures ∙ ap (λ (n : ℕ). min (n * 512) (length c.args.image.now)) c.from.ensures in
+    c.min-start.ensures in
     let len : c.min-len.result ≡ min (length c.args.image.now - c.min-start.result) 512 =
     c.min-len.ensures ∙ ap (λ (rest : ℕ). min rest 512) (ap length (take_rest c.args.image.now c.min-start.result) ∙ length-drop c.min-start.result c.args.image.now) in
     c.with_zeros.ensures ∙ cut_and_zeros c.args.image.now (c.args.n * 512) 512 (image_bytes - length c.args.image.now) c.min-start.result c.min-len.result start len (omega (arith, c.requires.within, c.requires.fits))
