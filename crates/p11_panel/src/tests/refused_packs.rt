@@ -1,8 +1,10 @@
 // Packs for which there is no memory.
 use crate::tests::refused_growths::{fill, fill_by};
 use crate::tests::run_session;
-use crate::{Answer, Bytes, Command, Config, Fault, NoMemory, Panel};
+use crate::{Answer, Bytes, Command, Config, Fault, NoMemory, Panel, StopReason, Words};
 use linked_list_allocator::LocalHeap;
+use std::alloc::{AllocError, Global};
+use std::process::Abort;
 use std::test::Fail;
 
 #[test]
@@ -10,33 +12,156 @@ fn a_pack_that_memory_refuses_is_not_mounted(rt: HostRuntime) -> Result<(), Fail
     let Ok(config) = Config::new(4, 0) else {
         return Err(Fail::from(NoMemory));
     };
-    let heap = LocalHeap::new(rt.alloc(), 2_600_000)?;
+    let heap = LocalHeap::new(rt.alloc(), 150_000)?;
     let mut panel = Panel::new(&heap, config)?;
     let mount = Command::Mount {
         drive: 0,
-        image: Bytes::from_vec(Vec::new(&heap)),
+        image: Bytes::from_vec(vec![in &heap; 1u8; 50_000]?),
         protect: false,
     };
-    let mut ballast = fill_by(rt.alloc(), &heap, 4096)?;
+    let mut ballast = fill_by(rt.alloc(), &heap, 1024)?;
     let _small = fill(rt.alloc(), &heap)?;
     let mut refused = 0u32;
-    for _ in 0..2000 {
+    for _ in 0..100 {
         match panel.act(&heap, &mount) {
             Answer::Done => break,
             answer => {
                 assert!(rt; matches!(answer, Answer::Refused(Fault::NoMemory)));
                 let changed = panel.act(&heap, &Command::Changed { drive: 0 });
                 assert!(rt; matches!(changed, Answer::Refused(Fault::DriveEmpty)));
-                assert!(rt; refused < 2000);
+                assert!(rt; refused < 100);
                 refused += 1;
                 let _ = ballast.pop();
             }
         }
     }
-    // 4,872 sectors of 512 bytes take more than 600 pieces
-    assert!(rt; refused > 600 && refused < 2000);
+    // 98 sectors of 512 bytes are 49 pieces
+    assert!(rt; refused > 48 && refused < 52);
     let again = panel.act(&heap, &mount);
     assert!(rt; matches!(again, Answer::Refused(Fault::DriveTaken)));
+    Ok(())
+}
+
+/// An image for drive 0, a program from 1000 on, words for registers after its start, and more turns than it runs.
+type Run = (&'static [u8], &'static [u16], &'static [(u32, u16)], u32);
+
+static RUNS: [Run; 3] = [
+    // a loader reads sector 0, a program that types an A and halts
+    (
+        b"\xdf\x15\x41\x00\x76\xff\xdf\x8b\x74\xff\xfd\x80\x00\x00",
+        &[
+            0o12700, 0o177406, 0o12710, 0o177400, 0o12740, 5, 0o105710, 0o100376, 0o5007,
+        ],
+        &[],
+        10_000,
+    ),
+    // two sectors are written
+    (
+        b"",
+        &[0o777],
+        &[(0o777410, 0o2000), (0o777406, 0o177000), (0o777404, 3)],
+        200,
+    ),
+    // 40 sectors are written, all with the word at 1000
+    (
+        b"",
+        &[0o777],
+        &[(0o777410, 0o1000), (0o777406, 0o154000), (0o777404, 0o4003)],
+        2000,
+    ),
+];
+
+/// A machine that is ready for a run.
+fn begun<'h>(heap: &'h LocalHeap, run: &Run) -> Result<Panel<&'h LocalHeap>, NoMemory> {
+    let (image, program, registers, _) = run;
+    let Ok(config) = Config::new(4, 0) else {
+        return Err(NoMemory);
+    };
+    let mut panel = Panel::new(heap, config)?;
+    let mount = Command::Mount {
+        drive: 0,
+        image: Bytes::from_vec(Vec::from_slice(heap, image)?),
+        protect: false,
+    };
+    let _ = panel.act(heap, &mount);
+    let deposit = Command::Deposit {
+        address: 0o1000,
+        words: Words::from_vec(Vec::from_slice(heap, program)?),
+    };
+    let _ = panel.act(heap, &deposit);
+    let _ = panel.act(heap, &Command::Start { address: 0o1000 });
+    for &(address, word) in *registers {
+        let deposit = Command::Deposit {
+            address,
+            words: Words::from_vec(vec![in heap; word; 1]?),
+        };
+        let _ = panel.act(heap, &deposit);
+    }
+    Ok(panel)
+}
+
+/// Runs a machine whose heap is full to its end, where each refused growth gives back a little more: how often it was
+/// stopped, in how many turns, and what was typed.
+fn run_on_full_heap<'h>(
+    rt: &impl Abort,
+    alloc: Global,
+    heap: &'h LocalHeap,
+    panel: &mut Panel<&'h LocalHeap>,
+    turns: u32,
+) -> Result<(u32, u32, Vec<u8>), AllocError> {
+    let mut ballast = fill(alloc, heap)?;
+    let mut typed_in_all = Vec::new(alloc);
+    let mut made = 0u32;
+    for stops in 0..5000u32 {
+        let step = Command::Step {
+            turns: turns.saturating_sub(made),
+        };
+        let Answer::Stop {
+            typed,
+            reason,
+            turns,
+            ..
+        } = panel.act(heap, &step)
+        else {
+            break;
+        };
+        typed_in_all.extend_from_slice(typed.as_slice())?;
+        made = made.saturating_add(turns);
+        assert!(rt;
+            matches!(panel.act(heap, &Command::Regs), Answer::Registers(registers) if registers.turns == u64::from(made))
+        );
+        if !matches!(reason, StopReason::Memory) {
+            return Ok((stops, made, typed_in_all));
+        }
+        let _ = ballast.pop();
+    }
+    Err(AllocError)
+}
+
+#[test]
+fn a_run_that_memory_stops_at_each_growth_is_finished_later(rt: HostRuntime) -> Result<(), Fail> {
+    for run in &RUNS {
+        let ample = LocalHeap::new(rt.alloc(), 5_200_000)?;
+        let heap = LocalHeap::new(rt.alloc(), 131_072)?;
+        let calm = LocalHeap::new(rt.alloc(), 131_072)?;
+        let mut panel = begun(&heap, run)?;
+        let (stops, made, typed) = run_on_full_heap(&rt, rt.alloc(), &heap, &mut panel, run.3)?;
+        assert!(rt; stops > 0);
+        let mut undisturbed = begun(&calm, run)?;
+        let step = Command::Step { turns: run.3 };
+        assert!(rt;
+            matches!(undisturbed.act(&calm, &step), Answer::Stop { typed: all, turns, .. }
+            if turns == made && all.as_slice() == typed.as_slice())
+        );
+        for command in [
+            Command::Regs,
+            Command::Device,
+            Command::Changed { drive: 0 },
+            Command::Save { drive: 0 },
+        ] {
+            assert!(rt; panel.act(&ample, &command) == undisturbed.act(&ample, &command));
+        }
+    }
     Ok(())
 }
 
@@ -45,7 +170,7 @@ fn an_image_that_memory_refuses(rt: HostRuntime) -> Result<(), Fail> {
     let Ok(config) = Config::new(4, 0) else {
         return Err(Fail::from(NoMemory));
     };
-    let heap = LocalHeap::new(rt.alloc(), 5_200_000)?;
+    let heap = LocalHeap::new(rt.alloc(), 2_600_000)?;
     let mut panel = Panel::new(&heap, config)?;
     let mut image = Vec::new(&heap);
     image.extend_from_slice(&[1, 2, 3])?;
@@ -83,7 +208,7 @@ fn a_list_of_sectors_that_memory_refuses(rt: HostRuntime) -> Result<(), Fail> {
     let Ok(config) = Config::new(4, 0) else {
         return Err(Fail::from(NoMemory));
     };
-    let heap = LocalHeap::new(rt.alloc(), 2_600_000)?;
+    let heap = LocalHeap::new(rt.alloc(), 65_536)?;
     let mut panel = Panel::new(&heap, config)?;
     let mount = Command::Mount {
         drive: 0,
