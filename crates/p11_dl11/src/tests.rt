@@ -32,74 +32,6 @@ fn a_new_line_is_idle(rt: HostRuntime) -> Result<(), Fail> {
     Ok(())
 }
 
-/// The second of two keys comes 64 turns after the first.
-#[test]
-fn two_keys(rt: HostRuntime) -> Result<(), Fail> {
-    let mut line = Dl11::new(rt.alloc())?;
-    assert_eq!(rt; line.key(0o101), Ok(()));
-    assert_eq!(rt; line.key(0o102), Ok(()));
-    assert_eq!(rt; line.due(0), (Some(1), None));
-    assert_eq!(rt; line.act(1), None);
-    assert_eq!(rt; line.due(1), (None, None), "done is 1");
-    assert_eq!(rt; line.read(Register::ReceiverStatus), 0o200);
-    assert_eq!(rt; line.read(Register::ReceiverBuffer), 0o101);
-    assert_eq!(rt; line.read(Register::ReceiverStatus), 0);
-    assert_eq!(rt; line.due(1), (Some(65), None));
-    for turn in 2..65u64 {
-        let _ = line.act(turn);
-        assert_eq!(rt; line.peek(Register::ReceiverStatus), 0, "in turn {turn}");
-    }
-    assert_eq!(rt; line.act(65), None);
-    assert_eq!(rt; line.read(Register::ReceiverStatus), 0o200);
-    assert_eq!(rt; line.peek(Register::ReceiverBuffer), 0o102);
-    assert_eq!(rt; line.read(Register::ReceiverBuffer), 0o102);
-    assert_eq!(rt;
-        line.read(Register::ReceiverBuffer),
-        0o102,
-        "the buffer keeps its character"
-    );
-    Ok(())
-}
-
-/// A character is typed 64 turns after it was written; one that is written before takes its place.
-#[test]
-fn typed_after_64_turns(rt: HostRuntime) -> Result<(), Fail> {
-    let mut line = Dl11::new(rt.alloc())?;
-    line.write(0, Register::TransmitterBuffer, 0o377);
-    assert_eq!(rt; registers(&line), (0, 0, 0, 0));
-    assert_eq!(rt; line.due(0), (None, Some(64)));
-    for turn in 1..64u64 {
-        assert_eq!(rt; line.act(turn), None, "in turn {turn}");
-    }
-    line.write(63, Register::TransmitterBuffer, 0o177501);
-    assert!(rt; line.types_in(64) && !line.types_in(65));
-    assert_eq!(rt; line.act(64), Some(0o101));
-    assert_eq!(rt; registers(&line), (0, 0, 0o200, 0));
-    assert_eq!(rt; requests(&line), (false, false));
-    assert_eq!(rt; line.act(65), None);
-    Ok(())
-}
-
-#[test]
-fn sixty_four_keys_wait(rt: HostRuntime) -> Result<(), Fail> {
-    let mut line = Dl11::new(rt.alloc())?;
-    for key in 1..65u8 {
-        assert_eq!(rt; line.key(key), Ok(()), "key {key}");
-    }
-    assert_eq!(rt; line.room(), 0);
-    assert_eq!(rt; line.key(65), Err(KeysFull));
-    let _ = line.act(1);
-    assert_eq!(rt;
-        line.read(Register::ReceiverBuffer),
-        1,
-        "the first key was kept"
-    );
-    assert_eq!(rt; line.room(), 1);
-    assert_eq!(rt; line.key(65), Ok(()));
-    assert_eq!(rt; line.key(66), Err(KeysFull));
-    Ok(())
-}
-
 /// Each way in which a request comes and goes.
 #[test]
 fn interrupts(rt: HostRuntime) -> Result<(), Fail> {
@@ -156,16 +88,6 @@ fn init(rt: HostRuntime) -> Result<(), Fail> {
     let _ = line.act(65);
     assert_eq!(rt; registers(&line), (0o200, 0o102, 0o200, 0));
     Ok(())
-}
-
-#[test]
-fn addresses(rt: HostRuntime) {
-    assert_eq!(rt; Register::at(0o777560), Some(Register::ReceiverStatus));
-    assert_eq!(rt; Register::at(0o777562), Some(Register::ReceiverBuffer));
-    assert_eq!(rt; Register::at(0o777564), Some(Register::TransmitterStatus));
-    assert_eq!(rt; Register::at(0o777566), Some(Register::TransmitterBuffer));
-    assert_eq!(rt; Register::at(0o777570), None);
-    assert_eq!(rt; Register::at(0o177560), None);
 }
 
 /// A line at a heap of this size takes 64 keys, if it can be made at all.

@@ -99,10 +99,11 @@ line_waits_text l =
     codes " keys " ++ decimal l.keys ++ codes " rx " ++ due_text l.receiver_due
     ++ codes " tx " ++ due_text l.transmitter_due ++ codes "\n"
 
--- `RK11 o o o o o o due d`: RKDS, RKER, RKCS, RKWC, RKBA and RKDA, and the due turn of the transfer
+-- ` due d`: the due turn of the transfer
 unfoldable pub disk_due_text : Option ℕ → List ℕ
 disk_due_text due = codes " due " ++ due_text due ++ codes "\n"
 
+-- `RK11 o o o o o o due d`: RKDS, RKER, RKCS, RKWC, RKBA and RKDA, and the due turn
 abbrev pub disk_text : DiskRegisters → List ℕ
 disk_text d =
     codes "RK11" ++ spaced_text (d.status ∷ d.errors ∷ d.control ∷ d.word_count ∷ d.bus_address ∷ d.disk_address ∷ [])
@@ -144,10 +145,11 @@ devices_text d =
     clock_text d.clock ++ (line_words_text d.line ++ line_waits_text d.line) ++ disk_text d.disk
     ++ drives_text 0 d.drives ++ management_text d.management ++ requests_text d.requests
 
--- `CHANGED d` and d numbers of sectors
+-- ` d` for each number
 abbrev pub numbers_text : List ℕ → List ℕ
 numbers_text numbers = flat_map (λ number. codes " " ++ decimal number) numbers
 
+-- `CHANGED d` and d numbers of sectors
 abbrev pub sectors_text : List ℕ → List ℕ
 sectors_text sectors = codes "CHANGED " ++ decimal (length sectors) ++ (numbers_text sectors ++ codes "\n")
 

@@ -11,7 +11,7 @@ pub enum StopReason {
     Halt,
     /// All the turns that were asked for are made.
     Turns,
-    /// The processor waits, and nothing that it could wait for is due at any later turn.
+    /// The processor waits, no device is due at a later turn, and no request stands above the processor's priority.
     Idle,
     /// A growth that the next turn needs was refused.
     Memory,

@@ -71,6 +71,6 @@ pub enum Line<A: Allocator = Global> {
     Regs,
     /// Show the devices.
     Device,
-    /// Drop what is kept of memory to make the machine fast, which nothing shows.
+    /// Drop the translations and the decoded words that are kept to make the machine fast. No answer shows it.
     Flush,
 }

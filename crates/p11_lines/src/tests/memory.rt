@@ -58,41 +58,6 @@ fn each_growth_of_a_reading_is_refused_in_turn(rt: HostRuntime) -> Result<(), Fa
     Ok(())
 }
 
-/// A text of keys takes memory, and what is no text is known without any.
-#[test]
-fn keys_want_memory(rt: HostRuntime) -> Result<(), Fail> {
-    let heap = LocalHeap::new(rt.alloc(), 4_096)?;
-    let full = ballast(rt.alloc(), &heap)?;
-    assert!(rt; !full.is_empty());
-    assert_eq!(rt; parse_line(&heap, b"key a\\102"), Err(Fault::NoMemory));
-    assert_eq!(rt; parse_line(&heap, b"key a\\400"), Err(Fault::BadLine));
-    Ok(())
-}
-
-#[test]
-fn the_text_of_keys_wants_memory(rt: HostRuntime) -> Result<(), Fail> {
-    let heap = LocalHeap::new(rt.alloc(), 4_096)?;
-    let line = parse_line(&heap, b"key a\\102")?;
-    let full = ballast(rt.alloc(), &heap)?;
-    assert!(rt; !full.is_empty());
-    assert!(rt; line_of(&heap, &line).is_err());
-    Ok(())
-}
-
-#[test]
-fn keys_are_read_with_ample_memory(rt: HostRuntime) -> Result<(), Fail> {
-    match parse_line(rt.alloc(), b"key a\\102") {
-        Ok(line) => {
-            let Line::Key { text } = line else {
-                return Err("no keys")?;
-            };
-            assert_eq!(rt; text.into_vec().as_slice(), b"aB".as_slice());
-        }
-        Err(_) => return Err("no line")?,
-    }
-    Ok(())
-}
-
 #[test]
 fn each_growth_of_a_text_is_refused_in_turn(rt: HostRuntime) -> Result<(), Fail> {
     let heap = LocalHeap::new(rt.alloc(), 4_096)?;
@@ -113,26 +78,30 @@ fn each_growth_of_a_text_is_refused_in_turn(rt: HostRuntime) -> Result<(), Fail>
     Ok(())
 }
 
-/// A name takes memory, what has none takes none, and what is no line is known without any.
+/// A line that holds a text or a name takes memory, and so does its text. What is no line is known without any.
 #[test]
-fn names_want_memory(rt: HostRuntime) -> Result<(), Fail> {
+fn texts_and_names_want_memory(rt: HostRuntime) -> Result<(), Fail> {
     let heap = LocalHeap::new(rt.alloc(), 4_096)?;
-    let line = parse_line(&heap, b"mount 1 pack ro")?;
+    let keys = parse_line(&heap, b"key a\\102")?;
+    let mount = parse_line(&heap, b"mount 1 pack ro")?;
     let full = ballast(rt.alloc(), &heap)?;
-    assert!(rt; !full.is_empty());
-    assert_eq!(rt; parse_line(&heap, b"mount 0 pack rw"), Err(Fault::NoMemory));
-    assert_eq!(rt; parse_line(&heap, b"save 0 pack"), Err(Fault::NoMemory));
-    assert_eq!(rt; parse_line(&heap, b"load pack"), Err(Fault::NoMemory));
-    assert_eq!(rt; parse_line(&heap, b"mount 0 pack r"), Err(Fault::BadLine));
-    assert_eq!(rt; parse_line(&heap, b"save 8 pack"), Err(Fault::BadLine));
-    assert_eq!(rt;
-        parse_line(&heap, b"unmount 0"),
-        Ok(Line::Unmount { drive: 0 })
-    );
-    assert!(rt; line_of(&heap, &line).is_err());
+    for &text in &[
+        b"key a\\102".as_slice(),
+        b"mount 0 pack rw",
+        b"save 0 pack",
+        b"load pack",
+    ] {
+        assert_eq!(rt; parse_line(&heap, text).err(), Some(Fault::NoMemory));
+    }
+    for &text in &[b"key a\\400".as_slice(), b"mount 0 pack r", b"save 8 pack"] {
+        assert_eq!(rt; parse_line(&heap, text).err(), Some(Fault::BadLine));
+    }
+    assert!(rt; parse_line(&heap, b"unmount 0").is_ok());
+    assert!(rt; line_of(&heap, &keys).is_err() && line_of(&heap, &mount).is_err());
     drop(full);
+    assert_eq!(rt; line_of(&heap, &keys)?.as_slice(), b"key aB".as_slice());
     assert_eq!(rt;
-        line_of(&heap, &line)?.as_slice(),
+        line_of(&heap, &mount)?.as_slice(),
         b"mount 1 pack ro".as_slice()
     );
     Ok(())
