@@ -1,5 +1,5 @@
 -- What a drive keeps stays in order: at the mount, when a sector is prepared, and when one is written.
-use Rattle.std.proofs.Common.{◌≡◌, ◌≢◌, ℕ, ◌+◌, ◌<◌, ◌≤◌, arith, true, false, true≢false, nat_eq, eqb, Bool, cond, ◌||◌, List, [], ◌∷◌, ◌++◌, length, get_or, replicate, set, Option, Some, None, IsSome, is_some, ap, refl, sym, ◌∙◌, inl, inr}
+use Rattle.std.proofs.Common.{◌≡◌, ◌≢◌, ℕ, ◌<◌, ◌≤◌, arith, true, false, true≢false, nat_eq, eqb, Bool, cond, ◌||◌, List, [], ◌∷◌, ◌++◌, length, replicate, set, Option, Some, None, is_some, ap, refl, sym, ◌∙◌, inl, inr}
 use Rattle.std.specs.List.{All, IsDistinct, list_any}
 use Rattle.std.specs.Int.{div_ceil}
 use Rattle.std.specs.Cmp.{nat_eq_equiv}

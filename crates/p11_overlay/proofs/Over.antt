@@ -1,11 +1,9 @@
 -- A base of sectors, and sectors kept over it.
-use Rattle.std.proofs.Common.{◌≡◌, ◌≢◌, ℕ, ◌+◌, ◌*◌, ◌<◌, ◌≤◌, arith, true, false, nat_eq, eqb, Bool, cond, List, [], ◌∷◌, ◌++◌, length, take, drop, map, replicate, get_or, set, Option, Some, None, IsTrue, is_some, ap, refl, sym, ◌∙◌, get_or-set_same, get_or-set_other, inl, inr}
-use Rattle.std.specs.List.{All, IsDistinct, list_any, range_with_len}
+use Rattle.std.proofs.Common.{◌≡◌, ◌≢◌, ℕ, ◌<◌, ◌≤◌, arith, true, false, eqb, cond, List, [], length, replicate, get_or, set, Option, Some, None, ap, refl, sym, ◌∙◌, get_or-set_same, get_or-set_other, inl, inr}
 use Rattle.std.proofs.Math.ListN.{length-set}
 use Rattle.std.proofs.lemmas.Bool.{cases_eq, cases_lt}
 use Rattle.std.proofs.lemmas.Bool.Decides.{nat_tests}
-use Rattle.std.proofs.lemmas.List.{ext_get_or, get_or_past, get_or-take, length-take, length-replicate}
-use Rattle.std.proofs.lemmas.List.Elements.{All-from_get_or, All-get_or}
+use Rattle.std.proofs.lemmas.List.{ext_get_or, get_or_past, get_or-take, length-take}
 use Rattle.std.proofs.lemmas.List.FromFn.{get_or-map-range_with_len, length-map-range_with_len}
 use Rattle.std.specs.Int.{div_ceil}
 use Rattle.p11_overlay.specs.Drive.{all_sectors, image_bytes, sector_bytes, filled, sector_within, sectors_of}

@@ -1,11 +1,10 @@
 -- The sectors of an image, and the image that sectors make.
-use Rattle.std.proofs.Common.{min, rules, replicate, ◌≡◌, ℕ, zero, suc, ◌+◌, ◌-◌, ◌*◌, ◌<◌, ◌≤◌, arith, true, nat_eq, Bool, List, [], ◌∷◌, ◌++◌, length, take, drop, map, get_or, ap, refl, sym, ◌∙◌, eq-eqb}
-use Rattle.std.specs.List.{All, IsDistinct, list_any, range_with_len, concat}
+use Rattle.std.proofs.Common.{min, rules, replicate, ◌≡◌, ℕ, zero, suc, ◌+◌, ◌-◌, ◌*◌, ◌<◌, ◌≤◌, arith, Bool, List, [], ◌∷◌, ◌++◌, length, take, drop, map, get_or, ap, refl, sym, ◌∙◌}
+use Rattle.std.specs.List.{All, IsDistinct, range_with_len, concat}
 use Rattle.std.proofs.Math.Seq.{drop-append-add, take-add}
 use Rattle.std.proofs.lemmas.List.{same_lists, places, append_assoc, append-nil, length-append, drop-drop, drop-replicate, drop_at, length-drop, length-replicate, length-take-le, take_all, take_at, take_more, take_rest, take-replicate}
 use Rattle.std.proofs.lemmas.List.Elements.{All-from_get_or, All-head, All-nil, All-tail}
-use Rattle.std.proofs.lemmas.List.Folds.{list_any_at}
-use Rattle.std.proofs.lemmas.List.FromFn.{fill_by_all, get_or-map-range_with_len, get_or-range_with_len, length-map-range_with_len, length-range_with_len, map-range_with_len_more, take-map-range_with_len}
+use Rattle.std.proofs.lemmas.List.FromFn.{fill_by_all, get_or-map-range_with_len, length-map-range_with_len, map-range_with_len_more, take-map-range_with_len}
 use Rattle.p11_overlay.specs.Drive.{IsWhole, all_sectors, image_bytes, filled, mounted, sector_within, sectors_of}
 use Rattle.std.specs.Int.{div_ceil}
 use Rattle.p11_overlay.specs.Kept.{base_of}

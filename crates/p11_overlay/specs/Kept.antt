@@ -1,6 +1,6 @@
 -- How this drive keeps a pack: the sectors of the mounted image as a base, and over it those that were made ready for
 -- a write or written since. Nothing outside the drive speaks of it.
-use Rattle.std.specs.Prelude.{◌≡◌, ℕ, ◌+◌, ◌<◌, ◌≤◌, Bool, true, false, IsTrue, nat_eq, is_some, List, length, map, take, replicate, slice_index_or, All, Option, Some, None}
+use Rattle.std.specs.Prelude.{◌≡◌, ℕ, ◌<◌, ◌≤◌, Bool, true, false, nat_eq, is_some, List, length, map, take, replicate, slice_index_or, All, Option, Some, None}
 use Rattle.std.specs.Int.{div_ceil}
 use Rattle.std.specs.List.{list_any, range_with_len, IsDistinct}
 use Rattle.p11_overlay.specs.Drive.{Contents, all_sectors, sector_bytes, sectors_of}

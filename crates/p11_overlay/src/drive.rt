@@ -223,13 +223,15 @@ fn mounted_sector(base: &[[u8; SECTOR_BYTES]], n: u16) -> &[u8; SECTOR_BYTES]
     }
 }
 
-/// Finds room for as many numbers as `count`.
+/// Finds room for just so many numbers, so that each sector asks for room of its own.
 fn make_room<A: Allocator>(list: &mut Vec<u16, A>, count: usize) -> Result<(), AllocError>
     ensures items { list.new.items ≡ list.old.items }
-    ensures capacity { vec_capacity list.old ≤ vec_capacity list.new }
     ensures room { OnOk result (count ≤ vec_capacity list.new) }
+    ensures err { OnErr result (vec_capacity list.new ≡ vec_capacity list.old) }
 {
-    list.reserve(count.saturating_sub(list.len()))
+    list.reserve(count.saturating_sub(list.len()))?;
+    list.shrink_to(count);
+    Ok(())
 }
 
 /// Keeps a sector that isn't kept yet. An `Err` says that there was no memory, and keeps none.

@@ -166,6 +166,39 @@ fn a_run_that_memory_stops_at_each_growth_is_finished_later(rt: HostRuntime) -> 
 }
 
 #[test]
+fn memory_stops_a_run_before_its_second_sector(rt: HostRuntime) -> Result<(), Fail> {
+    let heap = LocalHeap::new(rt.alloc(), 131_072)?;
+    let mut panel = begun(&heap, &RUNS[1])?;
+    let mut written = Vec::new(rt.alloc());
+    let first = run_session(
+        &heap,
+        &mut panel,
+        &mut b"step 50\n".as_slice(),
+        &mut written,
+    );
+    assert_eq!(rt; first, Ok(1));
+    let ballast = fill(rt.alloc(), &heap)?;
+    let second = run_session(
+        &heap,
+        &mut panel,
+        &mut b"step 150\n".as_slice(),
+        &mut written,
+    );
+    assert_eq!(rt; second, Ok(1));
+    drop(ballast);
+    let mut rest = b"changed 0\nstep 121\nchanged 0\nregs\n".as_slice();
+    assert_eq!(rt;
+        run_session(&heap, &mut panel, &mut rest, &mut written),
+        Ok(4)
+    );
+    assert_eq!(rt;
+        written.as_slice(),
+        b"STOP turns 50 001000\nSTOP memory 29 001000\nCHANGED 1 0\nSTOP turns 121 001000\nCHANGED 2 0 1\nREGS 000000 000000 000000 000000 000000 000000\nSP 000000 000000 PC 001000 PS 000000\nTURN 200 ready\n".as_slice()
+    );
+    Ok(())
+}
+
+#[test]
 fn an_image_that_memory_refuses(rt: HostRuntime) -> Result<(), Fail> {
     let Ok(config) = Config::new(4, 0) else {
         return Err(Fail::from(NoMemory));

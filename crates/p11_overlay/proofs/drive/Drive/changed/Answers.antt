@@ -1,4 +1,3 @@
-use Rattle.std.proofs.Common.{◌≡◌, ap}
 use Rattle.p11_overlay.proofs.Keeping.{length_changed, whole_kept}
 use Rattle.p11_overlay.proofs.drive.Drive.changed.Goals as goal
 

@@ -1,4 +1,4 @@
-use Rattle.std.proofs.Common.{◌≡◌, ◌∙◌, ap, sym, nat_eq, get_or, []}
+use Rattle.std.proofs.Common.{◌∙◌, ap, sym, nat_eq, get_or, []}
 use Rattle.indexmap.specs.IndexMap.{get}
 use Rattle.p11_overlay.specs.Drive.{DriveState}
 use Rattle.p11_overlay.specs.Kept.{base_sector, over_base}

@@ -1,4 +1,4 @@
-use Rattle.std.proofs.Common.{arith, ◌≡◌, ◌∙◌, ap, sym, nat_eq, vec_capacity}
+use Rattle.std.proofs.Common.{arith, ◌∙◌, ap, nat_eq, vec_capacity}
 use Rattle.std.specs.List.{list_any}
 use Rattle.indexmap.specs.IndexMap.{get, index_map_len}
 use Rattle.p11_overlay.specs.Drive.{DriveState, written}
