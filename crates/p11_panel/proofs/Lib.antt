@@ -2,6 +2,7 @@ pub mod RangeLemmas
 pub mod RunLemmas
 pub mod PlayLemmas
 pub mod OutcomeLemmas
+pub mod FlushLemmas
 pub mod LoadLemmas
 pub mod FileLemmas
 pub mod BufferLemmas

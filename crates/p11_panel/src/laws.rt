@@ -1,4 +1,5 @@
 //! Laws of the definitions, each a function that does nothing, whose contract is the law.
+ghost use Rattle.p11_panel.specs.FlushLaws.{FlushShowsNothing, LinesShowNothing};
 ghost use Rattle.p11_panel.specs.Laws.{RunsHaveOneOutcome, CommandsHaveOneOutcome, ListsHaveOneOutcome};
 
 use p11_tape::{fault_or_meaning, one_meaning};
@@ -22,6 +23,26 @@ pub fn a_command_has_one_outcome<A: Allocator>()
 /// A list of commands has one list of answers and one last state, where memory refused and stopped none of them.
 pub fn a_list_has_one_outcome<A: Allocator>()
     ensures { ListsHaveOneOutcome A }
+{
+    a_run_has_one_outcome();
+    one_meaning();
+    fault_or_meaning();
+}
+
+/// A flush may be taken out of a list of commands anywhere: no other answer changes and the last state doesn't, where
+/// memory refused and stopped none of them.
+pub fn flush_shows_nothing<A: Allocator>()
+    ensures { FlushShowsNothing A }
+{
+    a_run_has_one_outcome();
+    one_meaning();
+    fault_or_meaning();
+}
+
+/// New machines with as much memory give the same answers and come to the same state, whatever the number of their
+/// decoded lines, where memory refused and stopped none of the commands.
+pub fn the_number_of_lines_shows_nothing<A: Allocator>()
+    ensures { LinesShowNothing A }
 {
     a_run_has_one_outcome();
     one_meaning();

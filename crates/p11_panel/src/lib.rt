@@ -23,7 +23,10 @@ mod tests;
 
 pub use command::Command;
 pub use config::Config;
-pub use laws::{a_command_has_one_outcome, a_list_has_one_outcome, a_run_has_one_outcome};
+pub use laws::{
+    a_command_has_one_outcome, a_list_has_one_outcome, a_run_has_one_outcome, flush_shows_nothing,
+    the_number_of_lines_shows_nothing,
+};
 pub use memory_store::MemoryStore;
 pub use p11_lines::{
     Answer, Bytes, Devices, DiskRegisters, DriveShown, Fault, Line, LineRegisters,
