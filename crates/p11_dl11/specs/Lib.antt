@@ -1,6 +1,7 @@
 pub mod StatusRegister
 pub mod ReceiverState
 pub mod ReceiverEvents
+pub mod Taking
 pub mod TransmitterState
 pub mod TransmitterEvents
 pub mod LineState

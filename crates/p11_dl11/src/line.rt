@@ -1,6 +1,7 @@
 ghost use Rattle.std.specs.Prelude.{◌≡◌, ◌≤◌, ◌<◌, ◌^◌, ◌+◌, length, IfOk, IsOk, is_some};
 ghost use Rattle.p11_dl11.specs.LineEvents.{line_after_init, line_after_key, line_after_read, line_after_service, line_after_turn, line_after_write, line_requests, line_word, new_line};
 ghost use Rattle.p11_dl11.specs.ReceiverEvents.{receiver_due, receiver_room};
+ghost use Rattle.p11_dl11.specs.Taking.{takes_from};
 ghost use Rattle.p11_dl11.specs.TransmitterEvents.{transmitter_due, typed_in};
 
 use crate::receiver::Receiver;
@@ -123,6 +124,14 @@ impl<A: Allocator> Dl11<A> {
         ensures { result ≡ (receiver_due turn self.now.receiver, transmitter_due self.now.transmitter) }
     {
         (self.receiver.due(turn), self.transmitter.due())
+    }
+
+    /// The turn from which the receiver takes a key, which may have passed, and that in which the transmitter types a
+    /// character: `None` where no key waits or done is 1, and where nothing is sent.
+    pub fn first_turns(&self) -> (Option<u64>, Option<u64>)
+        ensures { result ≡ (takes_from self.now.receiver, transmitter_due self.now.transmitter) }
+    {
+        (self.receiver.takes_from(), self.transmitter.due())
     }
 
     /// Whether a character will be typed in this turn, if the line acts in it.

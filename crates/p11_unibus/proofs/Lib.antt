@@ -1,3 +1,4 @@
 pub mod Registers
 pub mod DeviceLaws
 pub mod Listing
+pub mod DueLemmas

@@ -1,12 +1,13 @@
 -- What the devices do in a turn: the line clock nothing of itself, then the console line's receiver, then its
 -- transmitter, and then the disk controller, which moves words from and to memory.
-use Rattle.std.specs.Prelude.{ℕ, Bool, ◌||◌, List, Option, Some, None, is_some, [], ◌∷◌, ◌++◌}
+use Rattle.std.specs.Prelude.{ℕ, Bool, List, Option, Some, None, is_some, [], ◌∷◌, ◌++◌}
 use Rattle.p11_dl11.specs.LineEvents.{line_after_turn}
 use Rattle.p11_dl11.specs.ReceiverEvents.{receiver_due}
 use Rattle.p11_dl11.specs.TransmitterEvents.{typed_in, transmitter_due}
 use Rattle.p11_rk11.specs.Acts.{disk_after_turn}
 use Rattle.p11_rk11.specs.State.{disk_due}
-use Rattle.p11_unibus.specs.declared.acts.DueTurns.{DueTurns}
+use Rattle.p11_unibus.specs.declared.due.DueTurns.{DueTurns}
+use Rattle.p11_unibus.specs.Due.{next_due}
 use Rattle.p11_unibus.specs.State.{BusState}
 
 -- typed characters, with one more where there is one
@@ -36,7 +37,6 @@ due_of turn b =
       disk = disk_due b.disk;
     }
 
--- whether any device is due at a later turn
+-- whether there is a later turn in which a device acts if nothing else happens
 unfoldable pub is_due : ℕ → BusState → Bool
-is_due turn b =
-    let due = due_of turn b in is_some due.receiver || is_some due.transmitter || is_some due.disk
+is_due turn b = is_some (next_due turn b)

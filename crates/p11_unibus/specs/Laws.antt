@@ -1,4 +1,4 @@
--- What laws say of every bus.
+-- Laws of the bus: what is true in each of its states.
 use Rattle.std.specs.Prelude.{ℕ, ◌≡◌, ◌≢◌, ◌≤◌, true, Some, IsSomeAnd}
 use Rattle.p11_psw.specs.Fields.{priority_number}
 use Rattle.p11_psw.specs.declared.priority.Priority.{Priority}

@@ -1,6 +1,7 @@
 pub mod Bytes
 pub mod State
 pub mod Registers
+pub mod Due
 pub mod Bus
 pub mod Written
 pub mod Acts

@@ -1,31 +1,37 @@
-//! What the devices on the bus do in a turn, the memory that they need for it, and when they are due.
+//! What the devices on the bus do in a turn, and the memory that they need for it. A turn before the nearest due one asks
+//! no device.
 ghost use Rattle.std.specs.Prelude.{◌≡◌, ◌<◌, ◌≤◌, ◌^◌, [], true, false, OnOk, IsOk};
 ghost use Rattle.p11_rk11.specs.Acts.{stores_of};
 ghost use Rattle.p11_rk11.specs.View as disks;
-ghost use Rattle.p11_unibus.specs.Acts.{bus_after_disk, bus_after_line, bus_after_turn, due_of, is_due};
+ghost use Rattle.p11_unibus.specs.Acts.{bus_after_disk, bus_after_line, bus_after_turn};
 ghost use Rattle.p11_unibus.specs.Prepared.{IsPreparedFor, disk_view, needs_memory, types_in};
 ghost use Rattle.p11_unibus.specs.Written.{ChangedOnly};
 
+use crate::due::nearest;
 use crate::laws::the_acts_write_words_of_a_disk_read_alone;
 use crate::unibus::Unibus;
 use std::alloc::{AllocError, Allocator};
 
-/// The turns in which the devices act if nothing else happens.
-#[derive(Clone, Copy, Debug, PartialEq, Eq)]
-pub struct DueTurns {
-    /// When the receiver takes a key.
-    pub receiver: Option<u64>,
-    /// When the transmitter types a character.
-    pub transmitter: Option<u64>,
-    /// When the transfer of the disk controller moves a sector or a seek is done, whichever is first.
-    pub disk: Option<u64>,
-}
-
 impl<A: Allocator> Unibus<A> {
     /// Finds the memory that the acts of a turn may need: room for a character that is typed in it, and what the drive
     /// needs for a disk write's sector that is due in it.
-    #[tactic(auto, unfolding(crate::specs::Prepared::needs_memory))]
+    #[inline]
     pub fn prepare(&mut self, turn: u64) -> Result<(), AllocError>
+        requires { turn ≤ 2 ^ 62 }
+        ensures visible { self.new.visible ≡ self.old.visible }
+        ensures ok { OnOk result (IsPreparedFor turn self.new.visible self.new.prepared) }
+        ensures needless { needs_memory turn self.old.visible ≡ false → IsOk result }
+        ensures written { self.new.written ≡ self.old.written }
+    {
+        if self.rests(turn) {
+            return Ok(());
+        }
+        self.find_memory(turn)
+    }
+
+    /// The same where a device may act in the turn.
+    #[tactic(auto, unfolding(crate::specs::Prepared::needs_memory))]
+    fn find_memory(&mut self, turn: u64) -> Result<(), AllocError>
         requires { turn ≤ 2 ^ 62 }
         ensures visible { self.new.visible ≡ self.old.visible }
         ensures ok { OnOk result (IsPreparedFor turn self.new.visible self.new.prepared) }
@@ -46,6 +52,7 @@ impl<A: Allocator> Unibus<A> {
         ensures written { self.new.written ≡ self.old.written }
     {
         self.typed.put(self.line.act(turn));
+        self.nearest = nearest(&self.line, &self.disk);
     }
 
     /// What the disk controller does in this turn: the transfer moves its sector where one is due, and seeks that are
@@ -60,12 +67,30 @@ impl<A: Allocator> Unibus<A> {
     {
         self.written.note_all(&self.disk.stores(turn));
         self.disk.act(turn, &mut self.memory);
+        self.nearest = nearest(&self.line, &self.disk);
     }
 
     /// What the devices do in this turn, each in its place: the receiver, the transmitter, the disk controller. It wants
     /// an empty list of written words, and lists all words of memory to which a disk read may store.
-    #[tactic(auto, unfolding(crate::specs::Acts::bus_after_turn))]
+    #[tactic(auto, using(crate::proofs::DueLemmas::no_change_yet, crate::proofs::DueLemmas::no_store_yet, crate::proofs::Listing::nothing_changed))]
+    #[inline]
     pub fn devices_act(&mut self, turn: u64)
+        requires turn { turn ≤ 2 ^ 62 }
+        requires prepared { IsPreparedFor turn self.old.visible self.old.prepared }
+        requires nothing { self.old.written ≡ [] }
+        ensures state { self.new.visible ≡ bus_after_turn turn self.old.visible }
+        ensures written { self.new.written ≡ stores_of turn self.old.visible.disk }
+        ensures changed { ChangedOnly self.new.written self.old.visible.memory self.new.visible.memory }
+    {
+        if self.rests(turn) {
+            return;
+        }
+        self.act(turn);
+    }
+
+    /// The same where a device may act in the turn.
+    #[tactic(auto, unfolding(crate::specs::Acts::bus_after_turn))]
+    fn act(&mut self, turn: u64)
         requires turn { turn ≤ 2 ^ 62 }
         requires prepared { IsPreparedFor turn self.old.visible self.old.prepared }
         requires nothing { self.old.written ≡ [] }
@@ -76,29 +101,5 @@ impl<A: Allocator> Unibus<A> {
         the_acts_write_words_of_a_disk_read_alone();
         self.line_acts(turn);
         self.disk_acts(turn);
-    }
-
-    /// Asked between this turn and the next: the turns in which the devices act if nothing else happens.
-    #[tactic(auto, unfolding(crate::specs::Acts::due_of))]
-    pub fn due(&self, turn: u64) -> DueTurns
-        requires { turn ≤ 2 ^ 62 }
-        ensures { result ≡ due_of turn self.now.visible }
-    {
-        let (receiver, transmitter) = self.line.due(turn);
-        DueTurns {
-            receiver,
-            transmitter,
-            disk: self.disk.due(),
-        }
-    }
-
-    /// Asked between this turn and the next: whether any device is due at a later turn.
-    #[tactic(auto, unfolding(crate::specs::Acts::is_due, crate::specs::Acts::due_of))]
-    pub fn is_due(&self, turn: u64) -> bool
-        requires { turn ≤ 2 ^ 62 }
-        ensures { result ≡ is_due turn self.now.visible }
-    {
-        let due = self.due(turn);
-        due.receiver.is_some() || due.transmitter.is_some() || due.disk.is_some()
     }
 }

@@ -20,7 +20,7 @@ pub trait Device {
     /// The device after INIT.
     ghost after_init: { Self → Self };
 
-    /// The device after its acts in a turn, as which begins memory holds these words.
+    /// The device after its acts in a turn, before which memory holds these words.
     ghost after_turn: { ℕ → Words → Self → Self };
 
     /// Asked between a turn and the next: the turns in which its parts act if nothing else happens.

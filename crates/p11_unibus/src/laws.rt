@@ -1,16 +1,17 @@
-ghost use Rattle.std.specs.Prelude.{◌≡◌, ◌%◌, ◌≤◌, ◌<◌, ℕ, false};
+ghost use Rattle.std.specs.Prelude.{◌≡◌, ◌↔◌, ◌%◌, ◌≤◌, ◌<◌, ℕ, false, Some, None};
 ghost use Rattle.p11_unibus.specs.Acts.{bus_after_turn, is_due};
 ghost use Rattle.p11_rk11.specs.Acts.{stores_of};
 ghost use Rattle.p11_rk11.specs.Memory.{has_word};
 ghost use Rattle.p11_unibus.specs.Bytes.{byte_at, with_byte};
 ghost use Rattle.p11_unibus.specs.Bus.{answers};
+ghost use Rattle.p11_unibus.specs.Due.{acts_in, next_due, IsNextDue, NoneLater};
 ghost use Rattle.p11_unibus.specs.Laws.{GrantsNoneLower, ShowsThere, StaysElsewhere};
 ghost use Rattle.p11_unibus.specs.State.{BusState, io_page, new_memory};
 ghost use Rattle.p11_unibus.specs.Written.{ChangedOnly};
 
 use crate::source::Source;
 use p11_psw::Priority;
-use p11_rk11::{memory_stays, nothing_happens_before_due, words_that_stay};
+use p11_rk11::{memory_stays, words_that_stay};
 
 /// Memory of 124 thousand (1,024) words at most has no word on the I/O page.
 #[tactic(auto, unfolding(crate::specs::State::new_memory, p11_rk11::specs::Memory::has_word))]
@@ -47,12 +48,24 @@ pub fn the_highest_request_is_granted(source: Source, priority: Priority)
 {}
 
 /// While nothing is due, a later turn leaves the bus as it is.
-#[tactic(auto, unfolding(crate::specs::Acts::bus_after_turn, crate::specs::Acts::bus_after_line, crate::specs::Acts::bus_after_disk, crate::specs::Acts::is_due, crate::specs::Acts::due_of, crate::specs::Acts::with_typed, p11_dl11::specs::LineEvents::line_after_turn, p11_dl11::specs::ReceiverEvents::receiver_after_turn, p11_dl11::specs::ReceiverEvents::receiver_due, p11_dl11::specs::TransmitterEvents::transmitter_after_turn, p11_dl11::specs::TransmitterEvents::transmitter_due, p11_dl11::specs::TransmitterEvents::typed_in))]
+#[tactic(auto, using(crate::proofs::DueLemmas::nothing_happens))]
 pub fn nothing_happens_where_nothing_is_due()
     ensures { (b : BusState) (turn later : ℕ) → turn < later → is_due turn b ≡ false → bus_after_turn later b ≡ b }
-{
-    nothing_happens_before_due();
-}
+{}
+
+/// The next due turn is the first later turn in which a device acts, and there is none exactly where no device acts in
+/// any later turn.
+#[tactic(auto, using(crate::proofs::DueLemmas::none_is_none))]
+pub fn the_next_due_turn_is_the_first_in_which_a_device_acts()
+    ensures next { (b : BusState) (turn n : ℕ) → (next_due turn b ≡ Some n) ↔ IsNextDue turn b n }
+    ensures none { (b : BusState) (turn : ℕ) → (next_due turn b ≡ None) ↔ NoneLater turn b }
+{}
+
+/// A turn in which no device acts leaves the bus as it is.
+#[tactic(auto, using(crate::proofs::DueLemmas::nothing_changes))]
+pub fn a_turn_in_which_no_device_acts_changes_nothing()
+    ensures { (b : BusState) (turn : ℕ) → acts_in turn b ≡ false → bus_after_turn turn b ≡ b }
+{}
 
 /// The acts of a turn write no words of memory but those to which a disk read that is due stores.
 #[tactic(auto, unfolding(crate::specs::Acts::bus_after_turn, crate::specs::Acts::bus_after_line, crate::specs::Acts::bus_after_disk))]

@@ -9,6 +9,7 @@ mod acts;
 mod bytes;
 mod device;
 mod devices;
+mod due;
 mod events;
 mod laws;
 mod memory;
@@ -20,14 +21,15 @@ mod typed;
 mod unibus;
 mod written;
 
-pub use acts::DueTurns;
 pub use bytes::{TimeOut, byte_of, replace_byte, word_of};
 pub use device::Device;
 pub use devices::{BusDevices, DiskRegisters, DriveShown};
+pub use due::DueTurns;
 pub use laws::{
-    a_byte_is_read_back, a_word_written_to_memory_shows, an_odd_address_answers_nowhere,
-    memory_ends_below_the_io_page, nothing_happens_where_nothing_is_due,
-    the_acts_write_words_of_a_disk_read_alone, the_highest_request_is_granted,
+    a_byte_is_read_back, a_turn_in_which_no_device_acts_changes_nothing,
+    a_word_written_to_memory_shows, an_odd_address_answers_nowhere, memory_ends_below_the_io_page,
+    nothing_happens_where_nothing_is_due, the_acts_write_words_of_a_disk_read_alone,
+    the_highest_request_is_granted, the_next_due_turn_is_the_first_in_which_a_device_acts,
 };
 pub use memory::Memory;
 pub use references::is_nothing_there;

@@ -1,5 +1,5 @@
-//! The devices together: a disk transfer, a seek and a character in the same turns, requests at several levels, and the
-//! words of memory that were written.
+//! The devices together: a disk transfer, a seek and a character in the same turns, requests at several levels, the
+//! words of memory that were written, and the next due turn.
 ghost use Rattle.std.specs.Prelude.{◌+◌, ◌≤◌};
 
 use crate::{DiskRegisters, DriveShown, Unibus};
@@ -101,6 +101,7 @@ fn a_sector_and_a_character_in_one_turn(rt: HostRuntime) -> Result<(), Fail> {
     assert!(rt; bus.is_due(0));
     pass(&mut bus, 0, 16)?;
     put(&rt, &mut bus, 16, &[(0o777566, 0o101)]);
+    assert_eq!(rt; bus.next_due(16), Some(48));
     let devices = bus.devices(16);
     assert_eq!(rt;
         devices.disk,
@@ -162,6 +163,7 @@ fn init_ends_a_seek_and_leaves_the_pack(rt: HostRuntime) -> Result<(), Fail> {
     put(&rt, &mut bus, 0, &[(0o777412, 0o20040), (0o777404, 0o11)]);
     assert!(rt; bus.busy(1));
     assert_eq!(rt; bus.devices(0).drives, [None, shown(true, 0, 0, Some(17))]);
+    assert_eq!(rt; bus.next_due(0), Some(17));
     bus.init();
     assert!(rt; !bus.is_due(0));
     put(&rt, &mut bus, 0, &[(0o777412, 0o20040), (0o777404, 0o11)]);
@@ -205,5 +207,23 @@ fn written_words_are_listed_until_they_are_asked_for(rt: HostRuntime) -> Result<
     pass(&mut bus, 47, 1)?;
     assert_eq!(rt; bus.written_since().as_slice(), [0o4000, 0o4002].as_slice());
     assert_eq!(rt; bus.written_since().as_slice(), [].as_slice());
+    Ok(())
+}
+
+#[test]
+fn the_next_due_turn_follows_what_happens(rt: HostRuntime) -> Result<(), Fail> {
+    let mut bus = Unibus::new(rt.alloc(), 4)?;
+    assert_eq!(rt; bus.next_due(0), None);
+    put(&rt, &mut bus, 0, &[(0o777566, 0o101)]);
+    assert_eq!(rt; bus.next_due(63), Some(64));
+    // A due turn that has passed never comes.
+    assert_eq!(rt; bus.next_due(64), None);
+    assert_eq!(rt; bus.key(0o102), Ok(()));
+    assert_eq!(rt; bus.next_due(0), Some(1));
+    assert_eq!(rt; bus.next_due(70), Some(71));
+    pass(&mut bus, 0, 1)?;
+    assert_eq!(rt; bus.next_due(1), Some(64));
+    bus.init();
+    assert_eq!(rt; bus.next_due(1), None);
     Ok(())
 }
