@@ -6,7 +6,7 @@ use Rattle.p11_dl11.specs.ReceiverEvents.{receiver_room}
 use Rattle.p11_dl11.specs.declared.line.KeysFull.{KeysFull}
 use Rattle.p11_overlay.specs.Drive.{mounted}
 use Rattle.p11_unibus.specs.declared.devices.BusDevices.{BusDevices}
-use Rattle.p11_unibus.specs.Acts.{is_due}
+use Rattle.p11_unibus.specs.Acts.{is_any_due}
 use Rattle.p11_unibus.specs.Devices.{devices_of}
 use Rattle.p11_unibus.specs.Events.{bus_after_key, bus_after_tick, bus_after_switches, bus_after_take, bus_after_mount, bus_after_unmount}
 use Rattle.p11_unibus.specs.Requests.{highest_request}
@@ -20,7 +20,7 @@ no_request priority b = not (is_some (highest_request priority b))
 -- whether the machine idles: the processor waits, no device is due at a later turn, and no request stands above the
 -- processor's priority
 unfoldable pub is_idle : State → Bool
-is_idle s = (s.processor.waiting && not (is_due s.turns s.bus)) && no_request s.processor.status.priority s.bus
+is_idle s = (s.processor.waiting && not (is_any_due s.turns s.bus)) && no_request s.processor.status.priority s.bus
 
 -- the typed characters are taken
 unfoldable pub take_typed_of : State → State

@@ -38,5 +38,5 @@ due_of turn b =
     }
 
 -- whether there is a later turn in which a device acts if nothing else happens
-unfoldable pub is_due : ℕ → BusState → Bool
-is_due turn b = is_some (next_due turn b)
+unfoldable pub is_any_due : ℕ → BusState → Bool
+is_any_due turn b = is_some (next_due turn b)

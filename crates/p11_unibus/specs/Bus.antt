@@ -113,12 +113,12 @@ unfoldable pub read_byte_of : ℕ → ℕ → BusState → BusState × Result �
 read_byte_of turn pa b = half_of pa (read_word_of turn (even pa) b)
 
 -- the high byte of the transmitter buffer
-abbrev pub nothing_there : ℕ
-nothing_there = 0o777567
+abbrev pub transmitter_high_byte : ℕ
+transmitter_high_byte = 0o777567
 
 -- A write of a byte: the word that shows is written with that byte replaced. At the high byte of the transmitter buffer
 -- it is answered and does nothing, so that no character is sent.
 unfoldable pub write_byte_of : ℕ → ℕ → ℕ → BusState → BusState × Result (Unit {0}) TimeOut
 write_byte_of turn pa byte b =
-    if pa == nothing_there then (b, Ok tt)
+    if pa == transmitter_high_byte then (b, Ok tt)
     else replaced_or time_out (see turn (even pa) b) (λ word. change turn (even pa) (with_byte pa byte word) b) b

@@ -22,8 +22,8 @@ pub record Prepared : Type 0 where
   pub sectors : List (List ℕ)
   pub room : ℕ
 
--- What contracts see of a bus: all that a program or the operator may see of it, and beside it what is prepared, and the
--- addresses of the words of memory that were written since that was last asked.
+-- What contracts see of a bus: all that a program or the operator may see of it, and beside it what is prepared, and
+-- the addresses of the words of memory that were written since that was last asked.
 pub record UnibusView : Type 0 where
   pub visible : BusState
   pub prepared : Prepared

@@ -1,5 +1,5 @@
-//! What the devices on the bus do in a turn, and the memory that they need for it. A turn before the nearest due one asks
-//! no device.
+//! What the devices on the bus do in a turn, and the memory that they need for it. A turn before the nearest due one
+//! asks no device.
 ghost use Rattle.std.specs.Prelude.{◌≡◌, ◌<◌, ◌≤◌, ◌^◌, [], true, false, OnOk, IsOk};
 ghost use Rattle.p11_rk11.specs.Acts.{stores_of};
 ghost use Rattle.p11_rk11.specs.View as disks;
@@ -70,8 +70,8 @@ impl<A: Allocator> Unibus<A> {
         self.nearest = nearest(&self.line, &self.disk);
     }
 
-    /// What the devices do in this turn, each in its place: the receiver, the transmitter, the disk controller. It wants
-    /// an empty list of written words, and lists all words of memory to which a disk read may store.
+    /// What the devices do in this turn, each in its place: the receiver, the transmitter, the disk controller. It
+    /// wants an empty list of written words, and lists all words of memory to which a disk read may store.
     #[tactic(auto, using(crate::proofs::DueLemmas::no_change_yet, crate::proofs::DueLemmas::no_store_yet, crate::proofs::Listing::nothing_changed))]
     #[inline]
     pub fn devices_act(&mut self, turn: u64)

@@ -6,7 +6,7 @@ ghost use Rattle.p11_unibus.specs.Bytes.{byte_at, even, with_byte};
 pub struct TimeOut;
 
 /// The even address of the word that holds the byte at an address.
-pub fn word_of(address: u32) -> u32
+pub fn even_address(address: u32) -> u32
     ensures { result ≡ even address }
 {
     address - address % 2

@@ -1,5 +1,5 @@
 ghost use Rattle.std.specs.Prelude.{◌≡◌, ◌↔◌, ◌%◌, ◌≤◌, ◌<◌, ℕ, false, Some, None};
-ghost use Rattle.p11_unibus.specs.Acts.{bus_after_turn, is_due};
+ghost use Rattle.p11_unibus.specs.Acts.{bus_after_turn, is_any_due};
 ghost use Rattle.p11_rk11.specs.Acts.{stores_of};
 ghost use Rattle.p11_rk11.specs.Memory.{has_word};
 ghost use Rattle.p11_unibus.specs.Bytes.{byte_at, with_byte};
@@ -50,7 +50,7 @@ pub fn the_highest_request_is_granted(source: Source, priority: Priority)
 /// While nothing is due, a later turn leaves the bus as it is.
 #[tactic(auto, using(crate::proofs::DueLemmas::nothing_happens))]
 pub fn nothing_happens_where_nothing_is_due()
-    ensures { (b : BusState) (turn later : ℕ) → turn < later → is_due turn b ≡ false → bus_after_turn later b ≡ b }
+    ensures { (b : BusState) (turn later : ℕ) → turn < later → is_any_due turn b ≡ false → bus_after_turn later b ≡ b }
 {}
 
 /// The next due turn is the first later turn in which a device acts, and there is none exactly where no device acts in

@@ -21,7 +21,7 @@ mod typed;
 mod unibus;
 mod written;
 
-pub use bytes::{TimeOut, byte_of, replace_byte, word_of};
+pub use bytes::{TimeOut, byte_of, even_address, replace_byte};
 pub use device::Device;
 pub use devices::{BusDevices, DiskRegisters, DriveShown};
 pub use due::DueTurns;
@@ -32,7 +32,7 @@ pub use laws::{
     the_highest_request_is_granted, the_next_due_turn_is_the_first_in_which_a_device_acts,
 };
 pub use memory::Memory;
-pub use references::is_nothing_there;
+pub use references::is_transmitter_high_byte;
 pub use register::Register;
 pub use source::Source;
 pub use unibus::Unibus;

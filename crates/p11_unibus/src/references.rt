@@ -1,19 +1,19 @@
 ghost use Rattle.std.specs.Prelude.{◌≡◌, ◌==◌, ◌≤◌, ◌<◌, ◌^◌, length};
-ghost use Rattle.p11_unibus.specs.Bus.{nothing_there, read_byte_of, read_word_of, write_byte_of, write_word_of};
+ghost use Rattle.p11_unibus.specs.Bus.{transmitter_high_byte, read_byte_of, read_word_of, write_byte_of, write_word_of};
 ghost use Rattle.p11_unibus.specs.Written.{noted, noted_byte};
 
-use crate::bytes::{TimeOut, byte_of, replace_byte, word_of};
+use crate::bytes::{TimeOut, byte_of, even_address, replace_byte};
 use crate::unibus::Unibus;
 use std::alloc::Allocator;
 
 /// The high byte of the transmitter buffer, where a byte that is written does nothing.
-const NOTHING_THERE: u32 = 0o777567;
+const TRANSMITTER_HIGH_BYTE: u32 = 0o777567;
 
-/// Whether a byte that is written at an address does nothing.
-pub fn is_nothing_there(address: u32) -> bool
-    ensures { result ≡ (address == nothing_there) }
+/// Whether an address is that of the transmitter buffer's high byte.
+pub fn is_transmitter_high_byte(address: u32) -> bool
+    ensures { result ≡ (address == transmitter_high_byte) }
 {
-    address == NOTHING_THERE
+    address == TRANSMITTER_HIGH_BYTE
 }
 
 impl<A: Allocator> Unibus<A> {
@@ -54,7 +54,7 @@ impl<A: Allocator> Unibus<A> {
         ensures memory { self.new.visible.memory ≡ self.old.visible.memory }
         ensures written { self.new.written ≡ self.old.written }
     {
-        match self.read_word(turn, word_of(address)) {
+        match self.read_word(turn, even_address(address)) {
             Ok(word) => Ok(byte_of(address, word)),
             Err(error) => Err(error),
         }
@@ -69,10 +69,10 @@ impl<A: Allocator> Unibus<A> {
         ensures outcome { write_byte_of turn address byte self.old.visible ≡ (self.new.visible, result) }
         ensures written { self.new.written ≡ noted_byte address self.old }
     {
-        if is_nothing_there(address) {
+        if is_transmitter_high_byte(address) {
             return Ok(());
         }
-        let even = word_of(address);
+        let even = even_address(address);
         match self.see(turn, even) {
             Some(word) => {
                 self.write(turn, even, replace_byte(address, byte, word));

@@ -83,7 +83,7 @@ fn shown(protected: bool, cylinder: u8, changed: u32, due: Option<u64>) -> Optio
 #[test]
 fn a_sector_and_a_character_in_one_turn(rt: HostRuntime) -> Result<(), Fail> {
     let mut bus = Unibus::new(rt.alloc(), 28)?;
-    assert!(rt; !bus.is_due(0));
+    assert!(rt; !bus.is_any_due(0));
     mount(&rt, rt.alloc(), &mut bus, 0, false)?;
     // Enables of transmitter and clock; RKBA, RKWC, and a write of two sectors with enable.
     put(
@@ -98,7 +98,7 @@ fn a_sector_and_a_character_in_one_turn(rt: HostRuntime) -> Result<(), Fail> {
         0,
         &[(0o777410, 0o2000), (0o777406, 0o177000), (0o777404, 0o103)],
     );
-    assert!(rt; bus.is_due(0));
+    assert!(rt; bus.is_any_due(0));
     pass(&mut bus, 0, 16)?;
     put(&rt, &mut bus, 16, &[(0o777566, 0o101)]);
     assert_eq!(rt; bus.next_due(16), Some(48));
@@ -126,7 +126,7 @@ fn a_sector_and_a_character_in_one_turn(rt: HostRuntime) -> Result<(), Fail> {
     );
     assert_eq!(rt; devices.drives, [shown(false, 0, 2, None), None]);
     assert!(rt; devices.disk_request);
-    assert!(rt; !bus.is_due(80));
+    assert!(rt; !bus.is_any_due(80));
     assert_eq!(rt; bus.take_typed().as_slice(), [0o101].as_slice());
     match bus.drive(0) {
         Some(drive) => assert_eq!(rt; drive.changed(), [0, 1].as_slice()),
@@ -165,7 +165,7 @@ fn init_ends_a_seek_and_leaves_the_pack(rt: HostRuntime) -> Result<(), Fail> {
     assert_eq!(rt; bus.devices(0).drives, [None, shown(true, 0, 0, Some(17))]);
     assert_eq!(rt; bus.next_due(0), Some(17));
     bus.init();
-    assert!(rt; !bus.is_due(0));
+    assert!(rt; !bus.is_any_due(0));
     put(&rt, &mut bus, 0, &[(0o777412, 0o20040), (0o777404, 0o11)]);
     pass(&mut bus, 0, 17)?;
     let devices = bus.devices(17);
