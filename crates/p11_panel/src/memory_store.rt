@@ -23,8 +23,10 @@ impl<A: Allocator> Model for File<A> {
     ghost view = { λ f. record { name = f.name; bytes = f.bytes } };
 }
 
-/// A store of files in memory, in which the last bytes under a name count. It refuses a name that it doesn't have, and
-/// what it has no memory for.
+/// A store of files in memory, in which the last bytes under a name count.
+///
+/// It refuses a fetch of a name that it doesn't have, and a put for which it has no memory; a fetch whose copy finds no
+/// memory answers `NoMemory`, which is no refusal.
 #[derive(Drop)]
 pub struct MemoryStore<L: Ledger, A: Allocator = Global> {
     files: Vec<File<A>, A>,

@@ -39,7 +39,7 @@ impl<A: Allocator + Copy> Panel<A> {
 impl<A: Allocator + Copy> Panel<A> {
     /// Does one command, and answers it.
     ///
-    /// A refused command answers its first fault and changes nothing. A `Mount`, a `Save`, a `Changed` and an
+    /// A refused command answers its first fault and changes nothing. A `Mount`, a `Save`, a `Changed`, a `Load` and an
     /// `Examine` of several words may find no memory, and answer `NoMemory` then; no other command does.
     pub fn act(&mut self, alloc: A, command: &Command<A>) -> Answer<A>
         ensures { Acts self.old command.now result self.new }

@@ -6,6 +6,7 @@ mod disks;
 mod lines;
 mod refused_growths;
 mod refused_packs;
+mod slow_streams;
 mod stores;
 mod streams;
 mod tapes;

@@ -62,52 +62,33 @@ fn an_answer_of_several_words_that_memory_refuses(rt: HostRuntime) -> Result<(),
     };
     let heap = LocalHeap::new(rt.alloc(), 16384)?;
     let mut panel = Panel::new(&heap, config)?;
-    let commands = adding(&heap)?;
-    for command in &commands {
-        let _ = panel.act(&heap, command);
-    }
+    let mut script = b"deposit 1000 12700 5\nstart 1000\nstep 1\n".as_slice();
+    let mut written = Vec::new(rt.alloc());
+    let answered = run_session(&heap, &mut panel, &mut script, &mut written);
+    assert_eq!(rt; answered, Ok(3));
     let mut ballast = fill(rt.alloc(), &heap)?;
-    let several = Command::Examine {
-        address: 0o1000,
-        count: 40,
-    };
     let mut refused = 0u32;
     for _ in 0..100 {
-        match panel.act(&heap, &several) {
-            Answer::Words { address, words } => {
-                assert_eq!(rt; (address, words.as_slice().len()), (0o1000, 40));
-                assert!(rt;
-                    words
-                        .as_slice()
-                        .starts_with(&[0o12700, 5, 0o62700, 7, 0, 0])
-                );
-                break;
-            }
-            answer => {
-                assert!(rt; matches!(answer, Answer::Refused(Fault::NoMemory)));
-                // one word takes no memory, and the state is as it was
-                let one = Command::Examine {
-                    address: 0o1002,
-                    count: 1,
-                };
-                assert!(rt;
-                    matches!(
-                        panel.act(&heap, &one),
-                        Answer::Word {
-                            address: 0o1002,
-                            word: 5
-                        }
-                    )
-                );
-                assert!(rt;
-                    matches!(panel.act(&heap, &Command::Regs), Answer::Registers(registers)
-                    if registers.general[0] == 0o14 && registers.pc == 0o1012 && registers.turns == 3)
-                );
-                assert!(rt; refused < 1000);
-                refused += 1;
-                let _ = ballast.pop();
-            }
+        // one word takes no memory, and the state is as it was
+        let mut script = b"examine 1000 40\nexamine 1002\nregs\n".as_slice();
+        written.clear();
+        let answered = run_session(&heap, &mut panel, &mut script, &mut written);
+        assert_eq!(rt; answered, Ok(3));
+        if written
+            .as_slice()
+            .starts_with(b"EXAM 001000 012700\nEXAM 001002 000005\n")
+        {
+            break;
         }
+        assert_eq!(rt;
+            written.as_slice(),
+            b"? 12 NoMemory\nEXAM 001002 000005\nREGS 000005 000000 000000 000000 000000 000000\n\
+              SP 000000 000000 PC 001004 PS 000000\nTURN 1 ready\n"
+                .as_slice()
+        );
+        assert!(rt; refused < 1000);
+        refused += 1;
+        let _ = ballast.pop();
     }
     assert!(rt; refused > 3 && refused < 100);
     Ok(())
