@@ -9,6 +9,7 @@ use crate::results::{carry, cut, is_negative, logic};
 use crate::size::Size;
 
 /// One place to the left, with a new lowest bit.
+#[inline(always)]
 fn moved_left(size: Size, number: u16, bit: bool) -> u16
     ensures value { result ≡ (2 * val size number + flag bit 1) % modulus size }
     ensures fits { Fits size result }
@@ -17,6 +18,7 @@ fn moved_left(size: Size, number: u16, bit: bool) -> u16
 }
 
 /// One place to the right, with a new sign bit.
+#[inline(always)]
 fn moved_right(size: Size, number: u16, sign: bool) -> u16
     ensures value { result ≡ val size number / 2 + (if sign then sign_weight size else 0) }
     ensures fits { Fits size result }
@@ -29,6 +31,7 @@ fn moved_right(size: Size, number: u16, sign: bool) -> u16
 }
 
 /// A number that was moved by one place, with the codes from the bit that went out.
+#[inline(always)]
 fn with_codes(size: Size, number: u16, out: bool) -> (u16, Codes)
     ensures { result ≡ moved_result size number out }
 {
@@ -45,6 +48,7 @@ fn with_codes(size: Size, number: u16, out: bool) -> (u16, Codes)
 /// ROL and ROR: a rotate by one place through C. Of a byte the low byte of `number` is looked at
 /// alone.
 #[tactic(auto, unfolding(crate::specs::Shifts::rotate_of))]
+#[inline(always)]
 pub fn rotate(size: Size, direction: Direction, number: u16, c: bool) -> (u16, Codes)
     ensures value { result ≡ rotate_of size direction number c }
     ensures fits { Fits size result.0 }
@@ -58,6 +62,7 @@ pub fn rotate(size: Size, direction: Direction, number: u16, c: bool) -> (u16, C
 /// ASL and ASR: a shift by one place, which to the right keeps the sign. Of a byte the low byte
 /// of `number` is looked at alone.
 #[tactic(auto, unfolding(crate::specs::Shifts::shift_of))]
+#[inline(always)]
 pub fn shift(size: Size, direction: Direction, number: u16) -> (u16, Codes)
     ensures value { result ≡ shift_of size direction number }
     ensures fits { Fits size result.0 }
@@ -71,6 +76,7 @@ pub fn shift(size: Size, direction: Direction, number: u16) -> (u16, Codes)
 
 /// SWAB: the bytes of a word exchanged, with the codes of the new low byte.
 #[tactic(auto, unfolding(crate::specs::Shifts::swab_of))]
+#[inline(always)]
 pub fn swab(word: u16) -> (u16, Codes)
     ensures { result ≡ swab_of word }
 {

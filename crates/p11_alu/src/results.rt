@@ -7,6 +7,7 @@ use crate::codes::Codes;
 use crate::size::Size;
 
 /// The bits of a size.
+#[inline(always)]
 pub(crate) fn cut(size: Size, number: u16) -> u16
     ensures value { result ≡ val size number }
     ensures fits { Fits size result }
@@ -18,6 +19,7 @@ pub(crate) fn cut(size: Size, number: u16) -> u16
 }
 
 /// The sign bit of a number of a size.
+#[inline(always)]
 pub(crate) fn is_negative(size: Size, number: u16) -> bool
     ensures { result ≡ int_lt (sval size number) (pos 0) }
 {
@@ -28,6 +30,7 @@ pub(crate) fn is_negative(size: Size, number: u16) -> bool
 }
 
 /// The sum without its carry.
+#[inline(always)]
 fn wrapped_sum(size: Size, a: u16, b: u16) -> u16
     ensures value { result ≡ wrapped (modulus size) (pos (val size a) +ℤ pos (val size b)) }
     ensures fits { Fits size result }
@@ -36,6 +39,7 @@ fn wrapped_sum(size: Size, a: u16, b: u16) -> u16
 }
 
 /// The difference without its borrow.
+#[inline(always)]
 fn wrapped_difference(size: Size, a: u16, b: u16) -> u16
     ensures value { result ≡ wrapped (modulus size) (pos (val size a) -ℤ pos (val size b)) }
     ensures fits { Fits size result }
@@ -44,6 +48,7 @@ fn wrapped_difference(size: Size, a: u16, b: u16) -> u16
 }
 
 /// A sum doesn't fit: two equal signs gave the other one.
+#[inline(always)]
 fn sum_overflows(size: Size, a: u16, b: u16, sum: u16) -> bool
     requires { sum ≡ wrapped (modulus size) (pos (val size a) +ℤ pos (val size b)) }
     ensures { result ≡ not (int_eq (sval size a +ℤ sval size b) (sval size sum)) }
@@ -53,6 +58,7 @@ fn sum_overflows(size: Size, a: u16, b: u16, sum: u16) -> bool
 }
 
 /// A difference doesn't fit: two signs differed, and the first was lost.
+#[inline(always)]
 fn difference_overflows(size: Size, a: u16, b: u16, difference: u16) -> bool
     requires { difference ≡ wrapped (modulus size) (pos (val size a) -ℤ pos (val size b)) }
     ensures { result ≡ not (int_eq (sval size a -ℤ sval size b) (sval size difference)) }
@@ -63,6 +69,7 @@ fn difference_overflows(size: Size, a: u16, b: u16, difference: u16) -> bool
 
 /// ADD: the sum of two words. C is the carry out of bit 15.
 #[tactic(auto, unfolding(crate::specs::Results::add_of))]
+#[inline(always)]
 pub fn add(source: u16, destination: u16) -> (u16, Codes)
     ensures { result ≡ add_of source destination }
 {
@@ -78,6 +85,7 @@ pub fn add(source: u16, destination: u16) -> (u16, Codes)
 
 /// SUB: the destination minus the source, both words. C is the borrow.
 #[tactic(auto, unfolding(crate::specs::Results::sub_of))]
+#[inline(always)]
 pub fn sub(source: u16, destination: u16) -> (u16, Codes)
     ensures { result ≡ sub_of source destination }
 {
@@ -94,6 +102,7 @@ pub fn sub(source: u16, destination: u16) -> (u16, Codes)
 /// CMP: the codes of the source minus the destination, where SUB has it the other way. C is the
 /// borrow. Of bytes the low byte of each is looked at alone.
 #[tactic(auto, unfolding(crate::specs::Results::cmp_codes))]
+#[inline(always)]
 pub fn cmp(size: Size, source: u16, destination: u16) -> Codes
     ensures { result ≡ cmp_codes size source destination }
 {
@@ -108,6 +117,7 @@ pub fn cmp(size: Size, source: u16, destination: u16) -> Codes
 
 /// INC: one more; C stays. Of a byte the low byte of `number` is looked at alone.
 #[tactic(auto, unfolding(crate::specs::Results::inc_of))]
+#[inline(always)]
 pub fn inc(size: Size, number: u16, c: bool) -> (u16, Codes)
     ensures value { result ≡ inc_of size number c }
     ensures fits { Fits size result.0 }
@@ -124,6 +134,7 @@ pub fn inc(size: Size, number: u16, c: bool) -> (u16, Codes)
 
 /// DEC: one less; C stays. Of a byte the low byte of `number` is looked at alone.
 #[tactic(auto, unfolding(crate::specs::Results::dec_of))]
+#[inline(always)]
 pub fn dec(size: Size, number: u16, c: bool) -> (u16, Codes)
     ensures value { result ≡ dec_of size number c }
     ensures fits { Fits size result.0 }
@@ -140,6 +151,7 @@ pub fn dec(size: Size, number: u16, c: bool) -> (u16, Codes)
 
 /// NEG: 0 minus the operand. C is set unless the result is 0. Of a byte the low byte of `number` is looked at alone.
 #[tactic(auto, unfolding(crate::specs::Results::neg_of))]
+#[inline(always)]
 pub fn neg(size: Size, number: u16) -> (u16, Codes)
     ensures value { result ≡ neg_of size number }
     ensures fits { Fits size result.0 }
@@ -155,6 +167,7 @@ pub fn neg(size: Size, number: u16) -> (u16, Codes)
 }
 
 /// The number that C stands for in a sum.
+#[inline(always)]
 pub(crate) fn carry(c: bool) -> u16
     ensures { result ≡ flag c 1 }
 {
@@ -163,6 +176,7 @@ pub(crate) fn carry(c: bool) -> u16
 
 /// ADC: the operand plus C. Of a byte the low byte of `number` is looked at alone.
 #[tactic(auto, unfolding(crate::specs::Results::adc_of))]
+#[inline(always)]
 pub fn adc(size: Size, number: u16, c: bool) -> (u16, Codes)
     ensures value { result ≡ adc_of size number c }
     ensures fits { Fits size result.0 }
@@ -180,6 +194,7 @@ pub fn adc(size: Size, number: u16, c: bool) -> (u16, Codes)
 
 /// SBC: the operand minus C. Of a byte the low byte of `number` is looked at alone.
 #[tactic(auto, unfolding(crate::specs::Results::sbc_of))]
+#[inline(always)]
 pub fn sbc(size: Size, number: u16, c: bool) -> (u16, Codes)
     ensures value { result ≡ sbc_of size number c }
     ensures fits { Fits size result.0 }
@@ -198,6 +213,7 @@ pub fn sbc(size: Size, number: u16, c: bool) -> (u16, Codes)
 /// The codes of a result that clears V, with C as handed in: the result of MOV, BIT, BIC, BIS,
 /// XOR, COM, CLR, TST, SXT, MFPI and MTPI. Of a byte the low byte of `value` is looked at alone.
 #[tactic(auto, unfolding(crate::specs::Results::logic_codes))]
+#[inline(always)]
 pub fn logic(size: Size, value: u16, c: bool) -> Codes
     ensures { result ≡ logic_codes size value c }
 {

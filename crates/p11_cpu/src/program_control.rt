@@ -12,6 +12,7 @@ use std::alloc::Allocator;
 
 /// Whether a branch is taken, by the condition codes.
 #[tactic(auto, unfolding(crate::specs::ProgramControl::is_taken))]
+#[inline(always)]
 fn takes(condition: Condition, codes: Codes) -> bool
     ensures { result ≡ is_taken condition codes }
 {
@@ -36,6 +37,7 @@ fn takes(condition: Condition, codes: Codes) -> bool
 
 /// Where a branch goes from the word after it, by its signed offset in words.
 #[tactic(auto, unfolding(crate::specs::ProgramControl::branch_address))]
+#[inline(always)]
 fn branch_target(offset: u8, pc: u16) -> u16
     ensures { result ≡ branch_address offset pc }
 {
@@ -47,6 +49,7 @@ fn branch_target(offset: u8, pc: u16) -> u16
 }
 
 /// Whether a word is 0.
+#[inline(always)]
 fn is_zero(word: u16) -> bool
     ensures { result ≡ (word == 0) }
 {
@@ -56,6 +59,7 @@ fn is_zero(word: u16) -> bool
 impl<A: Allocator> Hardware<A> {
     /// Sets PC to a branch's address, where the branch is taken.
     #[tactic(auto, unfolding(crate::specs::ProgramControl::branched))]
+    #[inline(always)]
     fn take_branch(&mut self, condition: Condition, offset: u8)
         ensures { self.new ≡ branched condition offset self.old }
     {
@@ -67,6 +71,7 @@ impl<A: Allocator> Hardware<A> {
 
     /// Takes twice the count from PC, where a register that was counted down isn't 0.
     #[tactic(auto, unfolding(crate::specs::ProgramControl::counted_back))]
+    #[inline(always)]
     fn count_back(&mut self, register: Register, count: Count)
         ensures { self.new ≡ counted_back register count self.old }
     {

@@ -19,7 +19,7 @@ impl<A: Allocator> Hardware<A> {
         match place {
             Place::Register(register) => Ok(self.previous_register(register)),
             Place::Memory(address) => {
-                let mode = self.status().previous;
+                let mode = self.previous_mode();
                 self.read_in(turn, mode, Size::Word, address)
             }
         }
@@ -36,7 +36,7 @@ impl<A: Allocator> Hardware<A> {
                 Ok(())
             }
             Place::Memory(address) => {
-                let mode = self.status().previous;
+                let mode = self.previous_mode();
                 self.write_in(turn, mode, Size::Word, address, word)
             }
         }

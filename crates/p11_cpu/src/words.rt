@@ -6,6 +6,7 @@ use p11_alu::Size as Width;
 use p11_decode::Size;
 
 /// The size as the arithmetic names it.
+#[inline(always)]
 pub(crate) fn width(size: Size) -> Width
     ensures { result ≡ width_of size }
 {
@@ -16,6 +17,7 @@ pub(crate) fn width(size: Size) -> Width
 }
 
 /// The sum of two words, without its carry.
+#[inline(always)]
 pub(crate) fn plus(word: u16, more: u16) -> u16
     ensures { result ≡ plus word more }
 {
@@ -24,6 +26,7 @@ pub(crate) fn plus(word: u16, more: u16) -> u16
 
 /// The difference of two words, without its borrow.
 #[tactic(auto, unfolding(crate::specs::Words::minus))]
+#[inline(always)]
 pub(crate) fn minus(word: u16, less: u16) -> u16
     ensures { result ≡ minus word less }
 {
@@ -31,6 +34,7 @@ pub(crate) fn minus(word: u16, less: u16) -> u16
 }
 
 /// What an instruction of this size sees of a register.
+#[inline(always)]
 pub(crate) fn cut(size: Size, word: u16) -> u16
     ensures { result ≡ val (width_of size) word }
 {
@@ -42,6 +46,7 @@ pub(crate) fn cut(size: Size, word: u16) -> u16
 
 /// A word or a byte with every bit turned.
 #[tactic(auto, unfolding(crate::specs::Words::complement))]
+#[inline(always)]
 pub(crate) fn complement(size: Size, number: u16) -> u16
     ensures { result ≡ complement size number }
 {
@@ -53,6 +58,7 @@ pub(crate) fn complement(size: Size, number: u16) -> u16
 
 /// The word of the same signed value: a byte with its sign in bits 15 to 8.
 #[tactic(auto, unfolding(crate::specs::Words::sign_extended))]
+#[inline(always)]
 pub(crate) fn extended(size: Size, value: u16) -> u16
     ensures { result ≡ sign_extended size value }
 {

@@ -60,6 +60,7 @@ impl Causes {
 
     /// Whether there is a cause.
     #[tactic(auto, unfolding(crate::specs::Reference::any_cause))]
+    #[inline(always)]
     pub(crate) fn any(self) -> bool
         ensures { result ≡ any_cause self }
     {
@@ -109,6 +110,7 @@ pub(crate) fn forbids(access: Access, kind: Kind) -> bool
 
 /// The page of a virtual address, bits 15:13.
 #[tactic(auto, unfolding(crate::specs::Reference::page_number))]
+#[inline(always)]
 pub(crate) fn page_number(address: u16) -> u8
     ensures value { result ≡ page_number address }
     ensures bound { result < 8 }
@@ -118,6 +120,7 @@ pub(crate) fn page_number(address: u16) -> u8
 
 /// The block in the page of a virtual address, bits 12:6.
 #[tactic(auto, unfolding(crate::specs::Reference::block_number))]
+#[inline(always)]
 pub(crate) fn block_number(address: u16) -> u8
     ensures value { result ≡ block_number address }
     ensures bound { result < 128 }
@@ -127,6 +130,7 @@ pub(crate) fn block_number(address: u16) -> u8
 
 /// The physical address of a virtual address through a page.
 #[tactic(auto, unfolding(crate::specs::Reference::physical))]
+#[inline(always)]
 pub(crate) fn physical(page: Page, address: u16) -> u32
     ensures value { result ≡ physical page address }
     ensures bound { result < 2 ^ 18 }
@@ -139,6 +143,7 @@ pub(crate) fn physical(page: Page, address: u16) -> u32
 
 /// The physical address of a virtual address while mapping is off: the upper 8 KB are the I/O page.
 #[tactic(auto, unfolding(crate::specs::Reference::unmapped))]
+#[inline(always)]
 pub(crate) fn unmapped(address: u16) -> u32
     ensures value { result ≡ unmapped address }
     ensures bound { result < 2 ^ 18 }
