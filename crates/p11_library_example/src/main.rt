@@ -1,9 +1,12 @@
 //! How a program of one's own runs the machine: by a list of commands, and by a script. It prints what R0 holds when
 //! two words were added, and what a session of three lines answers.
 #![tactic(auto)]
+
 ghost use Rattle.std.specs.Prelude.{◌≡◌, ◌<◌};
 
-use p11_panel::{Answer, Command, Config, MemoryStore, NoMemory, Panel, Store, Words, play, session};
+use p11_panel::{
+    Answer, Command, Config, MemoryStore, NoMemory, Panel, Store, Words, play, session,
+};
 use std::alloc::{AllocError, Global};
 use std::io;
 use std::marker::Brand;
