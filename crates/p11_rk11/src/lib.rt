@@ -30,6 +30,4 @@ pub use register::Register;
 pub use sector::Stores;
 
 #[cfg(test)]
-mod function_tests;
-#[cfg(test)]
 mod tests;
