@@ -32,29 +32,20 @@ pub(crate) fn fill_by(
 
 #[test]
 fn a_machine_that_memory_refuses(rt: HostRuntime) -> Result<(), Fail> {
-    let Ok(config) = Config::new(4, 16) else {
+    let Ok(config) = Config::new(4, 0) else {
         return Err(Fail::from(NoMemory));
     };
-    let heap = LocalHeap::new(rt.alloc(), 16384)?;
-    let mut ballast = fill(rt.alloc(), &heap)?;
-    let mut refused = 0u32;
-    for _ in 0..1000 {
-        if Panel::new(&heap, config).is_ok() {
-            break;
-        }
-        refused += 1;
-        let _ = ballast.pop();
-    }
-    // 8,192 bytes of memory, the ring of waiting keys and the decoded lines, by 16 bytes at a time
-    assert!(rt; refused > 516 && refused < 1000);
-    let mut panel = Panel::new(&heap, config)?;
+    let small = LocalHeap::new(rt.alloc(), 8176)?;
+    assert!(rt; matches!(Panel::new(&small, config), Err(NoMemory)));
+    let large = LocalHeap::new(rt.alloc(), 16384)?;
+    let mut panel = Panel::new(&large, config)?;
     let last = Command::Examine {
         address: 0o17776,
         count: 1,
     };
     assert!(rt;
         matches!(
-            panel.act(&heap, &last),
+            panel.act(&large, &last),
             Answer::Word {
                 address: 0o17776,
                 word: 0

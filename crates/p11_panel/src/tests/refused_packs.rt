@@ -1,10 +1,9 @@
 // Packs for which there is no memory.
 use crate::tests::refused_growths::{fill, fill_by};
 use crate::tests::run_session;
-use crate::{Answer, Bytes, Command, Config, Fault, NoMemory, Panel, StopReason, Words};
+use crate::{Answer, Bytes, Command, Config, Fault, NoMemory, Panel, Words};
 use linked_list_allocator::LocalHeap;
 use std::alloc::{AllocError, Global};
-use std::process::Abort;
 use std::test::Fail;
 
 #[test]
@@ -98,71 +97,6 @@ fn begun<'h>(heap: &'h LocalHeap, run: &Run) -> Result<Panel<&'h LocalHeap>, NoM
         let _ = panel.act(heap, &deposit);
     }
     Ok(panel)
-}
-
-/// Runs a machine whose heap is full to its end, where each refused growth gives back a little more: how often it was
-/// stopped, in how many turns, and what was typed.
-fn run_on_full_heap<'h>(
-    rt: &impl Abort,
-    alloc: Global,
-    heap: &'h LocalHeap,
-    panel: &mut Panel<&'h LocalHeap>,
-    turns: u32,
-) -> Result<(u32, u32, Vec<u8>), AllocError> {
-    let mut ballast = fill(alloc, heap)?;
-    let mut typed_in_all = Vec::new(alloc);
-    let mut made = 0u32;
-    for stops in 0..5000u32 {
-        let step = Command::Step {
-            turns: turns.saturating_sub(made),
-        };
-        let Answer::Stop {
-            typed,
-            reason,
-            turns,
-            ..
-        } = panel.act(heap, &step)
-        else {
-            break;
-        };
-        typed_in_all.extend_from_slice(typed.as_slice())?;
-        made = made.saturating_add(turns);
-        assert!(rt;
-            matches!(panel.act(heap, &Command::Regs), Answer::Registers(registers) if registers.turns == u64::from(made))
-        );
-        if !matches!(reason, StopReason::Memory) {
-            return Ok((stops, made, typed_in_all));
-        }
-        let _ = ballast.pop();
-    }
-    Err(AllocError)
-}
-
-#[test]
-fn a_run_that_memory_stops_at_each_growth_is_finished_later(rt: HostRuntime) -> Result<(), Fail> {
-    for run in &RUNS {
-        let ample = LocalHeap::new(rt.alloc(), 5_200_000)?;
-        let heap = LocalHeap::new(rt.alloc(), 131_072)?;
-        let calm = LocalHeap::new(rt.alloc(), 131_072)?;
-        let mut panel = begun(&heap, run)?;
-        let (stops, made, typed) = run_on_full_heap(&rt, rt.alloc(), &heap, &mut panel, run.3)?;
-        assert!(rt; stops > 0);
-        let mut undisturbed = begun(&calm, run)?;
-        let step = Command::Step { turns: run.3 };
-        assert!(rt;
-            matches!(undisturbed.act(&calm, &step), Answer::Stop { typed: all, turns, .. }
-            if turns == made && all.as_slice() == typed.as_slice())
-        );
-        for command in [
-            Command::Regs,
-            Command::Device,
-            Command::Changed { drive: 0 },
-            Command::Save { drive: 0 },
-        ] {
-            assert!(rt; panel.act(&ample, &command) == undisturbed.act(&ample, &command));
-        }
-    }
-    Ok(())
 }
 
 #[test]
