@@ -65,7 +65,11 @@ changed_with changed n = if list_any (nat_eq n) changed then changed else change
 -- a drive after a write of sector n
 abbrev pub written : Contents → ℕ → List ℕ → Contents
 written contents n bytes =
-    record { sectors = slice_set contents.sectors n bytes; protected = contents.protected; changed = changed_with contents.changed n }
+    record {
+      sectors = slice_set contents.sectors n bytes;
+      protected = contents.protected;
+      changed = changed_with contents.changed n;
+    }
 
 -- What every drive has: 4,872 sectors of 512 bytes, and each changed sector listed once.
 pub record IsWhole (contents : Contents) : Type 0 where

@@ -28,10 +28,12 @@ contents_of base kept protected changed =
 
 -- A sector that is kept is either listed as changed or the base's own, and each changed one is kept. The list has room
 -- for as many as are kept.
-pub record IsKept (base : List (List ℕ)) (kept : ℕ → Option (List ℕ)) (count : ℕ) (changed : List ℕ) (room : ℕ) : Type 0 where
+pub record IsKept (base : List (List ℕ)) (kept : ℕ → Option (List ℕ)) (count : ℕ) (changed : List ℕ) (room : ℕ)
+    : Type 0 where
   pub bytes : All (λ sector. length sector ≡ sector_bytes) base
   pub whole : (n : ℕ) (bytes : List ℕ) → kept n ≡ Some bytes → length bytes ≡ sector_bytes
-  pub unwritten : (n : ℕ) (bytes : List ℕ) → kept n ≡ Some bytes → list_any (nat_eq n) changed ≡ false → bytes ≡ base_sector base n
+  pub unwritten : (n : ℕ) (bytes : List ℕ) → kept n ≡ Some bytes → list_any (nat_eq n) changed ≡ false
+      → bytes ≡ base_sector base n
   pub written : (n : ℕ) → list_any (nat_eq n) changed ≡ true → is_some (kept n) ≡ true
   pub numbers : All (λ n. n < all_sectors) changed
   pub once : IsDistinct nat_eq changed

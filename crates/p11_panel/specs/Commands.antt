@@ -35,7 +35,8 @@ abbrev pub with_words : {A : Type 0} → ℕ → State × List ℕ → State × 
 with_words address read = (read.0, answers.Words address read.1)
 
 unfoldable pub examined : {A : Type 0} → ℕ → ℕ → State → State × Answer A
-examined address n s = if n == 1 then with_word address (examine_of address s) else with_words address (reads_at address n s)
+examined address n s =
+    if n == 1 then with_word address (examine_of address s) else with_words address (reads_at address n s)
 
 -- whether more than one word is written, and the last of them to the I/O page, which is 760000 and up
 unfoldable pub touches_io_page : ℕ → ℕ → Bool
@@ -72,7 +73,8 @@ Examines address n s answer s' = (examined address n s ≡ (s', answer)) ⊎ ((1
 -- SET writes a word to the register of a number, where one has it
 abbrev pub Sets : {A : Type 0} → ℕ → ℕ → State → Answer A → State → Type 0
 Sets number word s answer s' =
-    MatchOption (console_register number) (IsRefused BadRegister s answer s') (λ register. IsDone answers.Done (set_reg_of register word s) answer s')
+    MatchOption (console_register number) (IsRefused BadRegister s answer s')
+    (λ register. IsDone answers.Done (set_reg_of register word s) answer s')
 
 -- A run of n turns answers the characters that were typed in it, which are taken, its reason, how many turns were made,
 -- and PC. STEP isn't asked to stop where the machine idles, CONTINUE is.
@@ -91,11 +93,14 @@ Acts s (commands.Load tape) answer s' = Loads tape s answer s'
 Acts s (commands.Examine address n) answer s' =
     MatchOption (examine_fault address n s) (Examines address n s answer s') (λ fault. IsRefused fault s answer s')
 Acts s (commands.Deposit address words) answer s' =
-    MatchOption (deposit_fault address words s) (IsDone answers.Done (deposited address words s) answer s') (λ fault. IsRefused fault s answer s')
+    MatchOption (deposit_fault address words s) (IsDone answers.Done (deposited address words s) answer s')
+    (λ fault. IsRefused fault s answer s')
 Acts s (commands.Start address) answer s' =
-    MatchOption (start_fault address) (IsDone answers.Done (start_of address s) answer s') (λ fault. IsRefused fault s answer s')
+    MatchOption (start_fault address) (IsDone answers.Done (start_of address s) answer s')
+    (λ fault. IsRefused fault s answer s')
 Acts s (commands.Key text) answer s' =
-    MatchOption (key_fault text s) (IsDone answers.Done (pressed text s) answer s') (λ fault. IsRefused fault s answer s')
+    MatchOption (key_fault text s) (IsDone answers.Done (pressed text s) answer s')
+    (λ fault. IsRefused fault s answer s')
 Acts s commands.Tick answer s' = IsDone answers.Done (tick_of s) answer s'
 Acts s (commands.Switches word) answer s' = IsDone answers.Done (set_switches_of word s) answer s'
 Acts s (commands.Set number word) answer s' = Sets number word s answer s'

@@ -29,7 +29,8 @@ TapesHaveOneMeaning =
 
 -- memory neither refused the command nor stopped its run
 abbrev pub HadMemory : {A : Type 0} → Answer A → Type 0
-HadMemory answer = (answer ≢ answers.Refused NoMemory) × ((typed : List ℕ) (k pc : ℕ) → answer ≢ answers.Stop typed Memory k pc)
+HadMemory answer =
+    (answer ≢ answers.Refused NoMemory) × ((typed : List ℕ) (k pc : ℕ) → answer ≢ answers.Stop typed Memory k pc)
 
 -- a command has one answer and one next state
 abbrev pub CommandsHaveOneOutcome : Type 0 → Type 0

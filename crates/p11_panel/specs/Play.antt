@@ -10,4 +10,5 @@ unfoldable pub Plays : {A : Type 0} → State → List (Command A) → List (Ans
 Plays s [] [] s' = s' ≡ s
 Plays s [] (answer ∷ answers) s' = ⊥
 Plays s (command ∷ commands) [] s' = ⊥
-Plays s (command ∷ commands) (answer ∷ answers) s'' = (s' : State) × Acts s command answer s' × Plays s' commands answers s''
+Plays s (command ∷ commands) (answer ∷ answers) s'' =
+    (s' : State) × Acts s command answer s' × Plays s' commands answers s''

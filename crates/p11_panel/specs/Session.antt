@@ -71,7 +71,8 @@ SavesFile {A} drive name s answer s' = (s'.machine ≡ s.machine) × (
 
 -- what a line does that the grammar has
 unfoldable pub Obeys : {A : Type 0} → Line A → SessionState → Answer A → SessionState → Type 0
-Obeys (lines.Mount drive name protect) s answer s' = OnFile name (λ image. commands.Mount drive image protect) s answer s'
+Obeys (lines.Mount drive name protect) s answer s' =
+    OnFile name (λ image. commands.Mount drive image protect) s answer s'
 Obeys (lines.Unmount drive) s answer s' = IsCommand (commands.Unmount drive) s answer s'
 Obeys (lines.Save drive name) s answer s' = SavesFile drive name s answer s'
 Obeys (lines.Changed drive) s answer s' = IsCommand (commands.Changed drive) s answer s'
@@ -115,7 +116,8 @@ module _ {S A : Type 0} (Does : List ℕ → S → Option (Answer A) → S → T
       × Does line s answer s' × Runs lines s' others s'' × (answers ≡ option_to_list answer ++ others)
 
   -- These lines are done: from s to s', with so many answers; and their text is written, from the bytes old to new.
-  pub record Did (lines : List (List ℕ)) (s : S) (old : Option (List ℕ)) (s' : S) (new : Option (List ℕ)) (count : ℕ) : Type 0 where
+  pub record Did (lines : List (List ℕ)) (s : S) (old : Option (List ℕ)) (s' : S) (new : Option (List ℕ)) (count : ℕ)
+      : Type 0 where
     pub answers : List (Answer A)
     pub runs : Runs lines s answers s'
     pub written : Appends old new (texts_of answers)
@@ -123,7 +125,8 @@ module _ {S A : Type 0} (Does : List ℕ → S → Option (Answer A) → S → T
 
   -- Of these lines just those up to one are done, itself included. All earlier texts are written whole, and of its own
   -- text a front that isn't all of it.
-  pub record Broke (lines : List (List ℕ)) (s : S) (old : Option (List ℕ)) (s' : S) (new : Option (List ℕ)) : Type 0 where
+  pub record Broke (lines : List (List ℕ)) (s : S) (old : Option (List ℕ)) (s' : S) (new : Option (List ℕ))
+      : Type 0 where
     pub earlier : List (List ℕ)
     pub line : List ℕ
     pub others : List (List ℕ)

@@ -39,7 +39,10 @@ contents_after_sector _ r memory contents = contents
 -- Every moved sector brings the heads to its cylinder.
 unfoldable pub drive_after_sector : Registers → Words → MountedDrive → MountedDrive
 drive_after_sector r memory drive =
-    record drive { contents = contents_after_sector r.function r memory drive.contents; cylinder = r.disk_address.cylinder }
+    record drive {
+      contents = contents_after_sector r.function r memory drive.contents;
+      cylinder = r.disk_address.cylinder;
+    }
 
 -- A read stores the sector's first words in memory.
 unfoldable pub memory_after_sector : Function → Registers → Contents → Words → Words
@@ -49,7 +52,8 @@ memory_after_sector _ r contents memory = memory
 -- A write check compares the words of memory with the sector's first words.
 unfoldable pub differs : Function → Registers → Contents → Words → Bool
 differs WriteCheck r contents memory =
-    not (pointwise nat_eq (words_from (addresses r) (words_moved r) memory) (take (words_moved r) (sector_words r contents)))
+    not (pointwise nat_eq (words_from (addresses r) (words_moved r) memory)
+    (take (words_moved r) (sector_words r contents)))
 differs _ r contents memory = false
 
 -- One sector: where an address isn't memory, nothing moves, no counter does, and the function ends with no memory.

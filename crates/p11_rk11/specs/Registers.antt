@@ -52,16 +52,20 @@ is_ready r = not (is_some r.transfer)
 
 -- RKCS 7:0: 3:1 function, 5:4 address 17:16, 6 enable, 7 ready. GO reads as 0.
 unfoldable pub low_bits : Registers → ℕ
-low_bits r = function_number r.function * 0o2 + r.bus_address / 0o200000 * 0o20 + flag r.enable 0o100 + flag (is_ready r) 0o200
+low_bits r =
+    function_number r.function * 0o2 + r.bus_address / 0o200000 * 0o20 + flag r.enable 0o100 + flag (is_ready r) 0o200
 
 -- RKCS 13:8: 8 stop on soft error, 10 format, 11 inhibit increment, 13 search complete
 unfoldable pub high_bits : Registers → ℕ
-high_bits r = flag r.stop_on_soft_error 0o400 + flag r.format 0o2000 + flag r.inhibit_increment 0o4000 + flag r.search_complete 0o20000
+high_bits r =
+    flag r.stop_on_soft_error 0o400 + flag r.format 0o2000 + flag r.inhibit_increment 0o4000
+    + flag r.search_complete 0o20000
 
 -- 15 is 1 exactly where RKER isn't 0, and 14 exactly where a bit of RKER other than 0 is set
 unfoldable pub control_word : Registers → ℕ
 control_word r =
-    low_bits r + high_bits r + flag (not (error_word r.errors / 2 == 0)) 0o40000 + flag (not (error_word r.errors == 0)) 0o100000
+    low_bits r + high_bits r + flag (not (error_word r.errors / 2 == 0)) 0o40000
+    + flag (not (error_word r.errors == 0)) 0o100000
 
 -- A write of RKCS takes enable at any time. While enable is 0 no request stands.
 unfoldable pub with_enable : ℕ → Registers → Registers
@@ -107,7 +111,10 @@ unfoldable pub counters_advanced : Registers → Registers
 counters_advanced r =
     record r {
       word_count = (r.word_count + words_moved r) % 0o200000;
-      bus_address = if uses_memory r.function && not r.inhibit_increment then address_after r.bus_address (words_moved r) else r.bus_address;
+      bus_address =
+          if uses_memory r.function && not r.inhibit_increment
+          then address_after r.bus_address (words_moved r)
+          else r.bus_address;
       disk_address = next_place r.disk_address;
     }
 
@@ -126,7 +133,8 @@ next_sector_or_end turn was_last differs r =
 
 -- the registers after a sector moved
 unfoldable pub registers_after_sector : ℕ → Bool → Registers → Registers
-registers_after_sector turn differs r = next_sector_or_end turn (nat_le (words_left r) 256) differs (counters_advanced (with_difference differs r))
+registers_after_sector turn differs r =
+    next_sector_or_end turn (nat_le (words_left r) 256) differs (counters_advanced (with_difference differs r))
 
 -- whether an act with this due turn, if it has one, is due now
 unfoldable pub is_due : ℕ → Option ℕ → Bool

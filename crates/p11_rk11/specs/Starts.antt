@@ -30,7 +30,8 @@ arrival turn cylinder drive = turn + 16 + abs_diff cylinder drive.cylinder
 
 -- a drive whose heads set out for a cylinder
 unfoldable pub seeking : ℕ → ℕ → MountedDrive → MountedDrive
-seeking turn cylinder drive = record drive { seek = Some (record { due = arrival turn cylinder drive; cylinder = cylinder }) }
+seeking turn cylinder drive =
+    record drive { seek = Some (record { due = arrival turn cylinder drive; cylinder = cylinder }) }
 
 -- What a function makes of its drive when it begins: 4 sends the heads to RKDA's cylinder, 6 to
 -- cylinder 0, and 7 protects the drive.
@@ -40,8 +41,8 @@ drive_after_begin turn place DriveReset drive = seeking turn 0 drive
 drive_after_begin turn place WriteLock drive = record drive { contents = record drive.contents { protected = true } }
 drive_after_begin turn place _ drive = drive
 
--- And of the registers: 4, 6 and 7 end at once. The others are transfers, which clear ready: the first sector is due when
--- the heads have come to RKDA's cylinder and 32 turns more have passed. (A control reset begins nothing.)
+-- And of the registers: 4, 6 and 7 end at once. The others are transfers, which clear ready: the first sector is due
+-- when the heads have come to RKDA's cylinder and 32 turns more have passed. (A control reset begins nothing.)
 unfoldable pub registers_after_begin : ℕ → Function → MountedDrive → Registers → Registers
 registers_after_begin turn ControlReset drive r = r
 registers_after_begin turn Seek drive r = ended r
@@ -52,7 +53,8 @@ registers_after_begin turn _ drive r = record r { transfer = Some (arrival turn 
 -- a function after the checks of its drive: the first that holds ends it at once
 abbrev pub after_check : ℕ → Registers → MountedDrive → Option Failure → Registers × MountedDrive
 after_check turn r drive (Some failure) = (failed failure r, drive)
-after_check turn r drive None = (registers_after_begin turn r.function drive r, drive_after_begin turn r.disk_address r.function drive)
+after_check turn r drive None =
+    (registers_after_begin turn r.function drive r, drive_after_begin turn r.disk_address r.function drive)
 
 unfoldable pub after_start : ℕ → Registers → MountedDrive → Registers × MountedDrive
 after_start turn r drive = after_check turn r drive (drive_check r drive)
@@ -98,7 +100,8 @@ registers_with_value _ word r = r
 
 -- a write of a register other than RKCS, which is ignored while not ready
 unfoldable pub disk_after_value_write : Register → ℕ → Rk11State → Rk11State
-disk_after_value_write register word s = if is_ready s.registers then record s { registers = registers_with_value register word s.registers } else s
+disk_after_value_write register word s =
+    if is_ready s.registers then record s { registers = registers_with_value register word s.registers } else s
 
 -- a write of a register
 unfoldable pub disk_after_write : ℕ → Register → ℕ → Rk11State → Rk11State

@@ -28,7 +28,10 @@ prepared_on v n = slice_index_or v.prepared n []
 
 abbrev pub view_of : Registers → List (Option MountedState) → Rk11View
 view_of registers drives =
-    record { state = record { registers = registers; drives = map visible_drive drives }; prepared = map prepared_sectors drives }
+    record {
+      state = record { registers = registers; drives = map visible_drive drives };
+      prepared = map prepared_sectors drives;
+    }
 
 -- what was prepared on any drive still is
 abbrev pub KeepsPrepared : Rk11View → Rk11View → Type 0
@@ -51,7 +54,8 @@ IsPreparedDrive (Some drive) sectors n = IsTrue (list_any (nat_eq n) sectors)
 
 abbrev pub IsPreparedSector : Rk11View → Type 0
 IsPreparedSector v =
-    IsPreparedDrive (selected v.state) (prepared_on v v.state.registers.disk_address.drive) (sector_number v.state.registers.disk_address)
+    IsPreparedDrive (selected v.state) (prepared_on v v.state.registers.disk_address.drive)
+    (sector_number v.state.registers.disk_address)
 
 unfoldable pub IsPreparedFor : ℕ → Rk11View → Type 0
 IsPreparedFor turn v = write_is_due turn v.state ≡ true → IsPreparedSector v
