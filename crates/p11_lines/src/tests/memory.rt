@@ -2,16 +2,33 @@
 use crate::{Fault, line_of, parse_line};
 use linked_list_allocator::LocalHeap;
 use std::alloc::{AllocError, Global};
+use std::process::Abort;
 use std::test::Fail;
 
-/// A deposit of so many words, each 0.
-pub(crate) fn deposit_text(alloc: Global, count: usize) -> Result<Vec<u8>, AllocError> {
-    let mut text = Vec::from_slice(alloc, b"deposit 0")?;
-    for _ in 0..count {
-        text.extend_from_slice(b" 0")?;
-    }
-    Ok(text)
-}
+/// Lines that hold words, a text or a name, each as its own text.
+static HOLDING: [&[u8]; 5] = [
+    b"deposit 0 0 1 2 3 4 5 6 7 10 11 12 13 14 15 16 17 20 21 22 23 24 25 26 27 30 31 32 33 34 35",
+    b"key abcdefghijklmnopqrstuvwxyz\\012",
+    b"mount 1 a-pack-with-a-name-of-its-own ro",
+    b"save 0 pack",
+    b"load tape",
+];
+
+/// What takes no memory: lines that hold numbers alone, and what is no line, some of which no session can have.
+static FREE: [(&[u8], Option<Fault>); 12] = [
+    (b"examine 1000 2", None),
+    (b"set 10 177777", None),
+    (b"unmount 0", None),
+    (b"", Some(Fault::BadLine)),
+    (b" \t", Some(Fault::BadLine)),
+    (b"# regs", Some(Fault::BadLine)),
+    (b"regs\r", Some(Fault::BadLine)),
+    (b"\xff\x00", Some(Fault::BadLine)),
+    (b"mount 0 a\x80 ro", Some(Fault::BadLine)),
+    (b"key a\\400", Some(Fault::BadLine)),
+    (b"save 8 pack", Some(Fault::BadLine)),
+    (b"deposit 1000 8", Some(Fault::BadLine)),
+];
 
 /// All memory of a heap that is free, in pieces of 16 bytes.
 fn ballast(alloc: Global, heap: &LocalHeap) -> Result<Vec<Vec<u8, &LocalHeap>>, AllocError> {
@@ -25,75 +42,49 @@ fn ballast(alloc: Global, heap: &LocalHeap) -> Result<Vec<Vec<u8, &LocalHeap>>, 
     Ok(pieces)
 }
 
-#[test]
-fn each_growth_of_a_reading_is_refused_in_turn(rt: HostRuntime) -> Result<(), Fail> {
-    let text = deposit_text(rt.alloc(), 64)?;
-    let heap = LocalHeap::new(rt.alloc(), 4_096)?;
-    let mut full = ballast(rt.alloc(), &heap)?;
-    let mut refused = 0u32;
-    for _ in 0..200 {
-        assert!(rt; parse_line(&heap, b"examine 1000 2").is_ok());
-        assert_eq!(rt;
-            parse_line(&heap, b"deposit 1000 8").err(),
-            Some(Fault::BadLine)
-        );
-        match parse_line(&heap, &text).err() {
-            None => break,
-            Some(fault) => assert_eq!(rt; fault, Fault::NoMemory),
+/// Reads a line and writes it again, if there is memory.
+fn read_and_written(rt: &impl Abort, heap: &LocalHeap, text: &[u8]) -> bool {
+    match parse_line(heap, text) {
+        Ok(line) => match line_of(heap, &line) {
+            Ok(back) => {
+                assert_eq!(rt; back.as_slice(), text);
+                true
+            }
+            Err(_) => false,
+        },
+        Err(fault) => {
+            assert_eq!(rt; fault, Fault::NoMemory);
+            false
         }
-        assert!(rt; refused < 1_000);
-        refused += 1;
-        let _ = full.pop();
     }
-    assert!(rt; refused > 4 && refused < 100);
+}
+
+/// A full heap gives its memory back piece by piece, until the line and its text fit.
+#[test]
+fn each_growth_is_refused_in_turn(rt: HostRuntime) -> Result<(), Fail> {
+    for text in HOLDING {
+        let heap = LocalHeap::new(rt.alloc(), 4_096)?;
+        let mut full = ballast(rt.alloc(), &heap)?;
+        let mut wanted = None;
+        for pieces in 0..100 {
+            if read_and_written(&rt, &heap, text) {
+                wanted = Some(pieces);
+                break;
+            }
+            let _ = full.pop();
+        }
+        assert!(rt; wanted.is_some_and(|pieces| pieces > 0), "{text:?}");
+    }
     Ok(())
 }
 
 #[test]
-fn each_growth_of_a_text_is_refused_in_turn(rt: HostRuntime) -> Result<(), Fail> {
+fn what_holds_nothing_takes_no_memory(rt: HostRuntime) -> Result<(), Fail> {
     let heap = LocalHeap::new(rt.alloc(), 4_096)?;
-    let text = deposit_text(rt.alloc(), 64)?;
-    let line = parse_line(&heap, &text)?;
-    let mut full = ballast(rt.alloc(), &heap)?;
-    let mut refused = 0u32;
-    for _ in 0..200 {
-        if let Ok(back) = line_of(&heap, &line) {
-            assert_eq!(rt; back.as_slice(), text.as_slice());
-            break;
-        }
-        assert!(rt; refused < 1_000);
-        refused += 1;
-        let _ = full.pop();
-    }
-    assert!(rt; refused > 4 && refused < 100);
-    Ok(())
-}
-
-/// A line that holds a text or a name takes memory, and so does its text. What is no line is known without any.
-#[test]
-fn texts_and_names_want_memory(rt: HostRuntime) -> Result<(), Fail> {
-    let heap = LocalHeap::new(rt.alloc(), 4_096)?;
-    let keys = parse_line(&heap, b"key a\\102")?;
-    let mount = parse_line(&heap, b"mount 1 pack ro")?;
     let full = ballast(rt.alloc(), &heap)?;
-    for &text in &[
-        b"key a\\102".as_slice(),
-        b"mount 0 pack rw",
-        b"save 0 pack",
-        b"load pack",
-    ] {
-        assert_eq!(rt; parse_line(&heap, text).err(), Some(Fault::NoMemory));
+    for (text, fault) in FREE {
+        assert_eq!(rt; parse_line(&heap, text).err(), fault, "{text:?}");
     }
-    for &text in &[b"key a\\400".as_slice(), b"mount 0 pack r", b"save 8 pack"] {
-        assert_eq!(rt; parse_line(&heap, text).err(), Some(Fault::BadLine));
-    }
-    assert!(rt; parse_line(&heap, b"unmount 0").is_ok());
-    assert!(rt; line_of(&heap, &keys).is_err() && line_of(&heap, &mount).is_err());
     drop(full);
-    assert_eq!(rt; line_of(&heap, &keys)?.as_slice(), b"key aB".as_slice());
-    assert_eq!(rt;
-        line_of(&heap, &mount)?.as_slice(),
-        b"mount 1 pack ro".as_slice()
-    );
     Ok(())
 }
