@@ -1,0 +1,59 @@
+use crate::case::Setting;
+use crate::shelf::Shelf;
+use crate::wrong::{Wrong, bad_line};
+use p11_panel::{Panel, session};
+use std::alloc::{Allocator, Global};
+use std::sync::ledger::Ledger;
+
+/// A machine on an allocator, and its store.
+#[derive(Drop)]
+pub(crate) struct Bench<L: Ledger, A: Allocator> {
+    pub(crate) heap: A,
+    pub(crate) panel: Panel<A>,
+    pub(crate) shelf: Shelf<L>,
+}
+
+impl<L: Ledger, A: Allocator + Copy> Bench<L, A> {
+    /// What a session over a script answers.
+    pub(crate) fn ask(&mut self, alloc: Global, script: &str) -> Result<String, Wrong> {
+        let mut reader = script.as_bytes();
+        let mut written = Vec::new(alloc);
+        let heap = self.heap;
+        let played = session(
+            heap,
+            &mut self.panel,
+            &mut self.shelf,
+            &mut reader,
+            &mut written,
+        );
+        if played.is_err() {
+            return Err(bad_line(alloc, script));
+        }
+        text_of(alloc, written)
+    }
+
+    /// All that shows of the machine: registers, devices, the changed sectors, and what the case looks at.
+    pub(crate) fn state(&mut self, alloc: Global, setting: &Setting<'_>) -> Result<String, Wrong> {
+        let mut script = String::from_str(alloc, "regs\ndevice\nchanged 0\nchanged 1\n")?;
+        script.push_str(setting.case.looks.as_str())?;
+        self.ask(alloc, script.as_str())
+    }
+
+    /// The bytes of the files that the case leaves; of one that isn't there no byte.
+    pub(crate) fn left(&self, alloc: Global, setting: &Setting<'_>) -> Result<Vec<Vec<u8>>, Wrong> {
+        let mut left = Vec::new(alloc);
+        for name in setting.case.left.as_slice() {
+            let bytes = self.shelf.bytes_under(name.as_bytes()).unwrap_or(&[]);
+            left.push(Vec::from_slice(alloc, bytes)?)?;
+        }
+        Ok(left)
+    }
+}
+
+/// The text of bytes.
+pub(crate) fn text_of(alloc: Global, bytes: Vec<u8>) -> Result<String, Wrong> {
+    match String::from_utf8(bytes) {
+        Ok(text) => Ok(text),
+        Err(_) => Err(bad_line(alloc, "an answer that is no text")),
+    }
+}

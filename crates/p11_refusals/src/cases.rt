@@ -1,0 +1,211 @@
+use crate::calm::play_calmly;
+use crate::case::{Case, Places, Setting, StoredFile, Trial, number};
+use crate::full_heap::play_on_full_heap;
+use crate::wrong::{Wrong, bad_line};
+use p11_panel::Config;
+use std::alloc::Global;
+
+/// A file of cases, read line by line. The first characters of a line say what it is:
+///
+/// - none, or `#`: nothing.
+/// - `= NAME` begins a case.
+/// - `> LINE`: a line of its script, which nothing refuses; `> LINE; LINE` two, and so on.
+/// - `+ LEAST MOST LINE; LINE`: such lines, each refused at so many places at least and at most, where `-` is any number.
+/// - `^ LEAST MOST`: at how many places the new machine is refused.
+/// - `? LINE`: the answer of this line belongs to the state, beside the registers, the devices and the changed sectors.
+/// - `& NAME`: the session leaves a file of this name, whose bytes are compared too.
+/// - `@ NAME TIMES BYTES..`: a file in the store from here on, of these hexadecimal bytes, so many times over.
+/// - `! K N`: from here on machines have K thousand (1,024) words of memory and keep N decoded words.
+/// - `% memory BYTES PIECE`: from here on each growth is refused; the machine stands on a heap of so many bytes, and free
+///   memory comes back to it in pieces of PIECE bytes.
+/// - `% streams`: from here on the reader and the writer fail at each byte.
+/// - `% store`: from here on the store refuses each call; a line that is refused at one place makes a call.
+#[derive(Drop)]
+pub(crate) struct Cases {
+    config: Config,
+    trial: Trial,
+    files: Vec<StoredFile>,
+    case: Option<Case>,
+    /// What the cases that were tried showed, a line for each.
+    shown: String,
+    /// Whether all showed what they are to show.
+    is_right: bool,
+}
+
+impl Cases {
+    pub(crate) fn new(alloc: Global, config: Config) -> Cases {
+        Cases {
+            config,
+            trial: Trial::Streams,
+            files: Vec::new(alloc),
+            case: None,
+            shown: String::new(alloc),
+            is_right: true,
+        }
+    }
+
+    /// What the cases showed.
+    pub(crate) fn shown(&self) -> &str {
+        self.shown.as_str()
+    }
+
+    /// Whether all were as they are to be.
+    pub(crate) fn is_right(&self) -> bool {
+        self.is_right
+    }
+
+    /// Reads the next line.
+    pub(crate) fn take(&mut self, alloc: Global, line: &str) -> Result<(), Wrong> {
+        if line.is_empty() || line.starts_with("#") {
+            return Ok(());
+        }
+        let (sign, rest) = line.split_once(" ").unwrap_or((line, ""));
+        match sign {
+            "=" => self.begin(alloc, rest),
+            "@" => self.add_file(alloc, rest),
+            "!" => self.set_sizes(alloc, rest),
+            "%" => self.set_trial(alloc, rest),
+            _ => self.add_part(alloc, sign, rest),
+        }
+    }
+
+    /// Begins a case, and tries the one above it.
+    fn begin(&mut self, alloc: Global, name: &str) -> Result<(), Wrong> {
+        self.finish(alloc)?;
+        self.case = Some(Case::new(alloc, name, self.config)?);
+        Ok(())
+    }
+
+    fn add_file(&mut self, alloc: Global, text: &str) -> Result<(), Wrong> {
+        self.files.push(stored_file(alloc, text)?)?;
+        Ok(())
+    }
+
+    fn set_sizes(&mut self, alloc: Global, text: &str) -> Result<(), Wrong> {
+        self.config = sizes(alloc, text)?;
+        Ok(())
+    }
+
+    /// Takes what is tried from here on.
+    fn set_trial(&mut self, alloc: Global, text: &str) -> Result<(), Wrong> {
+        self.finish(alloc)?;
+        self.trial = trial(alloc, text)?;
+        Ok(())
+    }
+
+    /// Takes a line that belongs to the case.
+    fn add_part(&mut self, alloc: Global, sign: &str, rest: &str) -> Result<(), Wrong> {
+        match &mut self.case {
+            Some(case) => take_part(alloc, case, sign, rest),
+            None => Err(bad_line(alloc, rest)),
+        }
+    }
+
+    /// Tries the last case.
+    pub(crate) fn finish(&mut self, alloc: Global) -> Result<(), Wrong> {
+        let Some(case) = self.case.take() else {
+            return Ok(());
+        };
+        let setting = Setting {
+            case: &case,
+            files: self.files.as_slice(),
+        };
+        let name = case.name.as_str();
+        match try_case(alloc, self.trial, &setting) {
+            Ok(shown) => writeln!(self.shown, "{name}: {shown}")?,
+            Err(wrong) => {
+                self.is_right = false;
+                writeln!(self.shown, "{name}: {wrong}")?;
+            }
+        }
+        Ok(())
+    }
+}
+
+/// Takes a line that belongs to a case.
+fn take_part(alloc: Global, case: &mut Case, sign: &str, rest: &str) -> Result<(), Wrong> {
+    match sign {
+        ">" => case.add_lines(alloc, rest, Places::none())?,
+        "+" => {
+            let (places, lines) = places(alloc, rest)?;
+            case.add_lines(alloc, lines, places)?;
+        }
+        "^" => case.machine = places(alloc, rest)?.0,
+        "?" => case.add_look(rest)?,
+        "&" => case.left.push(String::from_str(alloc, rest)?)?,
+        _ => return Err(bad_line(alloc, rest)),
+    }
+    Ok(())
+}
+
+/// Tries a case: what it shows.
+fn try_case(alloc: Global, trial: Trial, setting: &Setting<'_>) -> Result<String, Wrong> {
+    let texts = setting.case.texts(alloc)?;
+    let calm = play_calmly(alloc, setting, texts.as_slice(), 0)?;
+    match trial {
+        Trial::Memory { heap, piece } => {
+            play_on_full_heap(alloc, setting, (heap, piece), &calm)?;
+            Ok(String::from_str(alloc, "every growth refused, ends as undisturbed")?)
+        }
+        Trial::Streams => Err(bad_line(alloc, "% streams")),
+        Trial::Store => Err(bad_line(alloc, "% store")),
+    }
+}
+
+/// A file: its name, how many times its bytes are repeated, and the bytes in hexadecimal.
+fn stored_file(alloc: Global, text: &str) -> Result<StoredFile, Wrong> {
+    let mut words = text.split_whitespace();
+    let name = Vec::from_slice(alloc, words.next().unwrap_or("").as_bytes())?;
+    let times = number(alloc, words.next().unwrap_or(""))?;
+    let mut once = Vec::new(alloc);
+    for word in words {
+        let Ok(byte) = u8::from_str_radix(word, 16) else {
+            return Err(bad_line(alloc, word));
+        };
+        once.push(byte)?;
+    }
+    let mut bytes = Vec::new(alloc);
+    for _ in 0..times {
+        bytes.extend_from_slice(once.as_slice())?;
+    }
+    Ok(StoredFile { name, bytes })
+}
+
+/// The sizes of machines.
+fn sizes(alloc: Global, text: &str) -> Result<Config, Wrong> {
+    let mut words = text.split_whitespace();
+    let kwords = number(alloc, words.next().unwrap_or(""))?;
+    let kept = number(alloc, words.next().unwrap_or(""))?;
+    match Config::new(kwords, kept) {
+        Ok(config) => Ok(config),
+        Err(_) => Err(bad_line(alloc, text)),
+    }
+}
+
+/// What is tried.
+fn trial(alloc: Global, text: &str) -> Result<Trial, Wrong> {
+    let mut words = text.split_whitespace();
+    match words.next() {
+        Some("memory") => {
+            let heap = number(alloc, words.next().unwrap_or(""))? as usize;
+            let piece = number(alloc, words.next().unwrap_or(""))? as usize;
+            Ok(Trial::Memory { heap, piece })
+        }
+        Some("streams") => Ok(Trial::Streams),
+        Some("store") => Ok(Trial::Store),
+        _ => Err(bad_line(alloc, text)),
+    }
+}
+
+/// A least and a greatest number, and what stands behind them.
+fn places(alloc: Global, text: &str) -> Result<(Places, &str), Wrong> {
+    let (least, rest) = text.split_once(" ").unwrap_or((text, ""));
+    let (most, rest) = rest.split_once(" ").unwrap_or((rest, ""));
+    let least = number(alloc, least)?;
+    let most = if most == "-" {
+        u32::MAX
+    } else {
+        number(alloc, most)?
+    };
+    Ok((Places { least, most }, rest))
+}

@@ -1,0 +1,183 @@
+use crate::ballast::{Ballast, MOST_TRIES};
+use crate::bench::Bench;
+use crate::calm::{Played, Step};
+use crate::case::Setting;
+use crate::stop::{Parts, Stop, part_of, rest_of};
+use crate::wrong::{Wrong, bad_line, same};
+use std::alloc::{AllocError, Allocator, Global};
+use std::sync::ledger::Ledger;
+
+/// The answer of a command for which no memory was found.
+const NO_MEMORY: &str = "? 12 NoMemory\n";
+
+/// A session on a heap whose free memory is taken.
+#[derive(Drop)]
+pub(crate) struct Disturbed<L: Ledger, A: Allocator> {
+    bench: Bench<L, A>,
+    ballast: Ballast<A>,
+    /// The lines that are done, a run in as many parts as it was made in.
+    steps: Vec<Step>,
+    /// The state behind the last of them.
+    state: String,
+}
+
+/// A line on its way: what is left of it, the parts of its run that are made, and at how many places it was refused.
+#[derive(Drop)]
+struct Way {
+    left: String,
+    parts: Parts,
+    places: u32,
+    /// Whether the next turn of its run is known to want memory.
+    wants: bool,
+}
+
+impl<L: Ledger, A: Allocator + Copy> Disturbed<L, A> {
+    pub(crate) fn new(alloc: Global, bench: Bench<L, A>, ballast: Ballast<A>) -> Self {
+        Disturbed {
+            bench,
+            ballast,
+            steps: Vec::new(alloc),
+            state: String::new(alloc),
+        }
+    }
+
+    /// Does a line, each of whose growths is refused, and compares it with the undisturbed one: at how many places it was
+    /// refused.
+    pub(crate) fn finish_line(
+        &mut self,
+        alloc: Global,
+        setting: &Setting<'_>,
+        step: &Step,
+    ) -> Result<u32, Wrong> {
+        self.state = self.shown(alloc, setting)?;
+        self.ballast.fill()?;
+        let mut way = Way {
+            left: step.line.clone()?,
+            parts: Parts::new(alloc),
+            places: 0,
+            wants: false,
+        };
+        for _ in 0..MOST_TRIES {
+            let asked = way.asked(alloc)?;
+            let answer = self.bench.ask(alloc, asked.as_str())?;
+            let state = self.shown(alloc, setting)?;
+            if answer.as_str() == NO_MEMORY {
+                way.places = way.places.saturating_add(1);
+                self.refused(alloc, asked.as_str(), state.as_str())?;
+                continue;
+            }
+            match way.part(asked.as_str(), answer.as_str()) {
+                Some(stop) => self.part(alloc, &mut way, &stop, state)?,
+                None => {
+                    self.done(alloc, &way, step, (asked, answer, state))?;
+                    return Ok(way.places);
+                }
+            }
+        }
+        Err(bad_line(alloc, step.line.as_str()))
+    }
+
+    /// The lines that were done, and the files that are left.
+    pub(crate) fn finish(self, alloc: Global, setting: &Setting<'_>) -> Result<Played, Wrong> {
+        let left = self.bench.left(alloc, setting)?;
+        Ok(Played {
+            steps: self.steps,
+            left,
+        })
+    }
+
+    /// The state, shown with memory that is kept for it.
+    fn shown(&mut self, alloc: Global, setting: &Setting<'_>) -> Result<String, Wrong> {
+        self.ballast.open();
+        let state = self.bench.state(alloc, setting)?;
+        self.ballast.close()?;
+        Ok(state)
+    }
+
+    /// After a refusal the state is as before, and a little memory comes back.
+    fn refused(&mut self, alloc: Global, asked: &str, state: &str) -> Result<(), Wrong> {
+        same(alloc, asked, self.state.as_str(), state)?;
+        self.ballast.give_back(alloc)
+    }
+
+    /// Takes a part of a run. Where it has no turn, the next turn wants memory; else all free memory is taken again.
+    fn part(
+        &mut self,
+        alloc: Global,
+        way: &mut Way,
+        stop: &Stop<'_>,
+        state: String,
+    ) -> Result<(), Wrong> {
+        if stop.turns == 0 {
+            if !way.wants {
+                way.places = way.places.saturating_add(1);
+            }
+            way.wants = true;
+            return self.refused(alloc, way.left.as_str(), state.as_str());
+        }
+        way.wants = false;
+        let line = part_of(alloc, way.left.as_str(), stop.turns)?;
+        self.add(line, stop.text(alloc, "turns")?, state)?;
+        way.parts.add(stop)?;
+        way.left = rest_of(alloc, way.left.as_str(), stop.turns)?;
+        self.ballast.fill()?;
+        Ok(())
+    }
+
+    /// Takes a line that is done, its answer, and the state behind it.
+    fn done(
+        &mut self,
+        alloc: Global,
+        way: &Way,
+        step: &Step,
+        (asked, answer, state): (String, String, String),
+    ) -> Result<(), Wrong> {
+        let whole = way.parts.whole(alloc, answer.as_str())?;
+        same(
+            alloc,
+            step.line.as_str(),
+            step.answer.as_str(),
+            whole.as_str(),
+        )?;
+        same(
+            alloc,
+            step.line.as_str(),
+            step.state.as_str(),
+            state.as_str(),
+        )?;
+        self.add(asked, answer, state)?;
+        Ok(())
+    }
+
+    /// Notes a line and the state behind it.
+    fn add(&mut self, line: String, answer: String, state: String) -> Result<(), AllocError> {
+        self.state = state.clone()?;
+        self.steps.push(Step {
+            line,
+            answer,
+            state,
+        })?;
+        Ok(())
+    }
+}
+
+impl Way {
+    /// The line that is asked next: what is left, and only one turn of a run where that turn wants memory.
+    fn asked(&self, alloc: Global) -> Result<String, AllocError> {
+        if self.wants {
+            part_of(alloc, self.left.as_str(), 1)
+        } else {
+            self.left.clone()
+        }
+    }
+
+    /// The answer, if it is that of a run that has not come to its end.
+    fn part<'a>(&self, asked: &str, answer: &'a str) -> Option<Stop<'a>> {
+        let stop = Stop::read(answer)?;
+        if stop.reason == "memory" || (stop.reason == "turns" && asked != self.left.as_str()) {
+            Some(stop)
+        } else {
+            None
+        }
+    }
+}

@@ -1,0 +1,77 @@
+//! The program `p11_refusals`: what a machine does where memory, a reader, a writer or a store fails, at every place.
+//!
+//! `p11_refusals FILE..` tries the cases of each file (see `Cases`) and prints a line for each. A case is a session that is
+//! played undisturbed first: each line's answer, and the state behind it. Then it is played again where something fails.
+//!
+//! - Want of memory: the machine stands on a heap of its own, all of whose free memory is taken. Each line is tried until
+//!   it is done. Its answer is `NoMemory`, and the state is as before; or it is a run that memory stopped, and goes on with
+//!   the turns that are left; or it is done. After each refusal a little memory comes back, and where turns were made all
+//!   free memory is taken again, so that each growth is refused in turn. In the end the answers, the parts of a run
+//!   joined, and the states are the undisturbed ones. A run that memory stopped after some turns leaves what a run of just
+//!   so many turns leaves.
+//!
+//! Where something differs, the program prints what was to be and what is, and ends with status 1.
+#![tactic(auto)]
+
+ghost use Rattle.std.specs.Prelude.{◌≡◌, ◌<◌};
+
+mod ballast;
+mod bench;
+mod calm;
+mod case;
+mod cases;
+mod disturbed;
+mod full_heap;
+mod shelf;
+mod stop;
+mod wrong;
+
+use crate::cases::Cases;
+use crate::wrong::{Wrong, bad_line};
+use p11_panel::Config;
+use std::alloc::Global;
+use std::process::ExitCode;
+use std::{env, fs, io};
+
+fn main(rt: HostRuntime) -> ExitCode {
+    match try_files(&rt) {
+        Ok(true) => ExitCode::SUCCESS,
+        Ok(false) => ExitCode::FAILURE,
+        Err(_) => {
+            let _ = rt.eprint("p11_refusals: a file can't be read, or there is no memory\n");
+            ExitCode::from(2)
+        }
+    }
+}
+
+/// Tries the cases of each file that the command line names; whether all are as they are to be.
+fn try_files(rt: &HostRuntime) -> io::Result<bool> {
+    let mut is_right = true;
+    for path in env::args(rt)?.skip(1) {
+        let text = fs::read_to_string(rt, path.as_str())?;
+        match try_text(rt.alloc(), text.as_str()) {
+            Ok(cases) => {
+                rt.print(cases.shown())?;
+                is_right &= cases.is_right();
+            }
+            Err(wrong) => {
+                println!(rt; "{path}: {wrong}")?;
+                is_right = false;
+            }
+        }
+    }
+    Ok(is_right)
+}
+
+/// Tries the cases of a file's text.
+fn try_text(alloc: Global, text: &str) -> Result<Cases, Wrong> {
+    let Ok(config) = Config::new(4, 16) else {
+        return Err(bad_line(alloc, "sizes"));
+    };
+    let mut cases = Cases::new(alloc, config);
+    for line in text.lines() {
+        cases.take(alloc, line)?;
+    }
+    cases.finish(alloc)?;
+    Ok(cases)
+}
