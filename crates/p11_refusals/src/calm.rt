@@ -18,11 +18,36 @@ pub(crate) struct Step {
     pub(crate) state: String,
 }
 
-/// A session's lines, and the bytes of the files that it leaves.
+/// A session's lines, the state before the first of them, and the bytes of the files that it leaves.
 #[derive(Drop)]
 pub(crate) struct Played {
+    pub(crate) begin: String,
     pub(crate) steps: Vec<Step>,
     pub(crate) left: Vec<Vec<u8>>,
+}
+
+impl Played {
+    /// The state when so many lines are done.
+    pub(crate) fn state_behind(&self, lines: usize) -> &str {
+        match self.steps.as_slice().get(..lines.min(self.steps.len())) {
+            Some([.., last]) => last.state.as_str(),
+            _ => self.begin.as_str(),
+        }
+    }
+
+    /// How many lines are answered up to the one whose answer has this byte of all their answers, itself included.
+    pub(crate) fn line_of_byte(&self, byte: usize) -> usize {
+        let mut before = byte;
+        let mut lines = 0usize;
+        for step in self.steps.as_slice() {
+            lines = lines.saturating_add(1);
+            let Some(left) = before.checked_sub(step.answer.len()) else {
+                break;
+            };
+            before = left;
+        }
+        lines
+    }
 }
 
 /// Plays lines on a new machine with ample memory, on a store that refuses its call of this number, and none where it is
@@ -66,7 +91,7 @@ fn play_with<L: Ledger>(
 }
 
 /// A new machine.
-fn new_panel(alloc: Global, setting: &Setting<'_>) -> Result<Panel, Wrong> {
+pub(crate) fn new_panel(alloc: Global, setting: &Setting<'_>) -> Result<Panel, Wrong> {
     match Panel::new(alloc, setting.case.config) {
         Ok(panel) => Ok(panel),
         Err(_) => Err(Wrong::NoMemory),
@@ -80,6 +105,7 @@ fn play_lines<L: Ledger>(
     setting: &Setting<'_>,
     lines: &[String],
 ) -> Result<Played, Wrong> {
+    let begin = bench.state(alloc, setting)?;
     let mut steps = Vec::new(alloc);
     for line in lines {
         let answer = bench.ask(alloc, line.as_str())?;
@@ -92,7 +118,7 @@ fn play_lines<L: Ledger>(
         })?;
     }
     let left = bench.left(alloc, setting)?;
-    Ok(Played { steps, left })
+    Ok(Played { begin, steps, left })
 }
 
 /// Compares the lines, answers and states of two sessions, and the files that they leave.
@@ -105,6 +131,7 @@ pub(crate) fn same_session(
     if expected.steps.len() != found.steps.len() || expected.left.len() != found.left.len() {
         return Err(bad_line(alloc, name));
     }
+    same(alloc, name, expected.begin.as_str(), found.begin.as_str())?;
     for (expected, found) in expected.steps.iter().zip(found.steps.iter()) {
         let place = format!(in alloc; "{name}: {}", expected.line)?;
         same(

@@ -1,6 +1,8 @@
 use crate::calm::play_calmly;
 use crate::case::{Case, Places, Setting, StoredFile, Trial, number};
 use crate::full_heap::play_on_full_heap;
+use crate::store_calls::refuse_calls;
+use crate::streams::break_streams;
 use crate::wrong::{Wrong, bad_line};
 use p11_panel::Config;
 use std::alloc::Global;
@@ -147,8 +149,8 @@ fn try_case(alloc: Global, trial: Trial, setting: &Setting<'_>) -> Result<String
             play_on_full_heap(alloc, setting, (heap, piece), &calm)?;
             Ok(String::from_str(alloc, "every growth refused, ends as undisturbed")?)
         }
-        Trial::Streams => Err(bad_line(alloc, "% streams")),
-        Trial::Store => Err(bad_line(alloc, "% store")),
+        Trial::Streams => break_streams(alloc, setting, &calm),
+        Trial::Store => refuse_calls(alloc, setting, &calm),
     }
 }
 

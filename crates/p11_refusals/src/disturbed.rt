@@ -15,6 +15,8 @@ const NO_MEMORY: &str = "? 12 NoMemory\n";
 pub(crate) struct Disturbed<L: Ledger, A: Allocator> {
     bench: Bench<L, A>,
     ballast: Ballast<A>,
+    /// The state before the first line.
+    begin: String,
     /// The lines that are done, a run in as many parts as it was made in.
     steps: Vec<Step>,
     /// The state behind the last of them.
@@ -36,9 +38,16 @@ impl<L: Ledger, A: Allocator + Copy> Disturbed<L, A> {
         Disturbed {
             bench,
             ballast,
+            begin: String::new(alloc),
             steps: Vec::new(alloc),
             state: String::new(alloc),
         }
+    }
+
+    /// Looks at the new machine.
+    pub(crate) fn begin(&mut self, alloc: Global, setting: &Setting<'_>) -> Result<(), Wrong> {
+        self.begin = self.shown(alloc, setting)?;
+        Ok(())
     }
 
     /// Does a line, each of whose growths is refused, and compares it with the undisturbed one: at how many places it was
@@ -81,6 +90,7 @@ impl<L: Ledger, A: Allocator + Copy> Disturbed<L, A> {
     pub(crate) fn finish(self, alloc: Global, setting: &Setting<'_>) -> Result<Played, Wrong> {
         let left = self.bench.left(alloc, setting)?;
         Ok(Played {
+            begin: self.begin,
             steps: self.steps,
             left,
         })

@@ -74,6 +74,7 @@ fn play_lines<L: Ledger, A: Allocator + Copy>(
     setting: &Setting<'_>,
     calm: &Played,
 ) -> Result<(), Wrong> {
+    disturbed.begin(alloc, setting)?;
     for (step, line) in calm.steps.iter().zip(setting.case.lines.iter()) {
         let count = disturbed.finish_line(alloc, setting, step)?;
         line.places.judge(alloc, step.line.as_str(), count)?;

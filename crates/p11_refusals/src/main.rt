@@ -22,8 +22,11 @@ mod case;
 mod cases;
 mod disturbed;
 mod full_heap;
+mod pieces;
 mod shelf;
 mod stop;
+mod store_calls;
+mod streams;
 mod wrong;
 
 use crate::cases::Cases;

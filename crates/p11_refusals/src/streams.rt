@@ -1,0 +1,179 @@
+// Sessions whose reader or writer fails, at each byte.
+ghost use Rattle.std.specs.Prelude.{◌≡◌, ◌<◌};
+
+use crate::bench::{Bench, text_of};
+use crate::calm::{Played, new_panel};
+use crate::case::Setting;
+use crate::pieces::{PieceReader, PieceWriter};
+use crate::shelf::Shelf;
+use crate::wrong::{Wrong, bad_line, same};
+use p11_panel::{SessionFault, session};
+use std::alloc::{AllocError, Global};
+use std::io::{Read, Write};
+use std::marker::Brand;
+use std::sync::ledger::{Blank, Ledger};
+
+/// How many bytes are read or written at once at most.
+const MOST: [usize; 3] = [4096, 5, 1];
+
+/// Breaks the reader behind each byte and the writer before each byte: what that shows.
+pub(crate) fn break_streams(
+    alloc: Global,
+    setting: &Setting<'_>,
+    calm: &Played,
+) -> Result<String, Wrong> {
+    let script = script_of(alloc, calm)?;
+    let answers = answers_of(alloc, calm, calm.steps.len())?;
+    for most in MOST {
+        for given in 0..script.len() + 1 {
+            break_reader(alloc, setting, calm, (script.as_bytes(), given, most))?;
+        }
+        for room in 0..answers.len() {
+            break_writer(alloc, setting, calm, (script.as_bytes(), room, most))?;
+        }
+        play_whole(alloc, setting, calm, (script.as_bytes(), most))?;
+    }
+    Ok(format!(in alloc;
+        "the reader fails behind 0 to {} bytes, and the writer behind 0 to {}",
+        script.len(),
+        answers.len().saturating_sub(1)
+    )?)
+}
+
+/// The script of a session.
+fn script_of(alloc: Global, calm: &Played) -> Result<String, AllocError> {
+    let mut script = String::new(alloc);
+    for step in calm.steps.as_slice() {
+        script.push_str(step.line.as_str())?;
+        script.push_str("\n")?;
+    }
+    Ok(script)
+}
+
+/// The answers of so many lines.
+fn answers_of(alloc: Global, calm: &Played, lines: usize) -> Result<String, AllocError> {
+    let mut answers = String::new(alloc);
+    for step in calm.steps.iter().take(lines) {
+        answers.push_str(step.answer.as_str())?;
+    }
+    Ok(answers)
+}
+
+/// What a session came to: how it ended, what was written, and the state behind it.
+fn outcome(alloc: Global, end: &str, written: &str, state: &str) -> Result<String, AllocError> {
+    format!(in alloc; "{end}\n{written}\n{state}")
+}
+
+/// What a session comes to that does so many lines, of whose answers so many bytes are written.
+fn expected_outcome(
+    alloc: Global,
+    calm: &Played,
+    end: &str,
+    (lines, bytes): (usize, usize),
+) -> Result<String, Wrong> {
+    let answers = answers_of(alloc, calm, lines)?;
+    let Some(written) = answers.as_str().get(..bytes.min(answers.len())) else {
+        return Err(bad_line(alloc, "an answer that is no ASCII"));
+    };
+    Ok(outcome(alloc, end, written, calm.state_behind(lines))?)
+}
+
+/// The reader fails behind so many bytes, of which it gives at most so many at once: just the lines that LF ended are done.
+fn break_reader(
+    alloc: Global,
+    setting: &Setting<'_>,
+    calm: &Played,
+    (script, given, most): (&[u8], usize, usize),
+) -> Result<(), Wrong> {
+    let (front, _) = script.split_at(given.min(script.len()));
+    let lines = front.iter().filter(|byte| **byte == b'\n').count();
+    let mut reader = PieceReader::new(front, most, true);
+    let mut writer = PieceWriter::new(alloc, usize::MAX, most, true);
+    let found = play(alloc, setting, &mut reader, &mut writer)?;
+    let expected = expected_outcome(alloc, calm, "Reading", (lines, usize::MAX))?;
+    let place = format!(in alloc; "a reader that fails behind {given} bytes, {most} at once")?;
+    same(alloc, place.as_str(), expected.as_str(), found.as_str())
+}
+
+/// The writer fails, or takes nothing, behind so many bytes: the line is done whose answer has the next byte, and no
+/// other behind it.
+fn break_writer(
+    alloc: Global,
+    setting: &Setting<'_>,
+    calm: &Played,
+    (script, room, most): (&[u8], usize, usize),
+) -> Result<(), Wrong> {
+    let expected = expected_outcome(alloc, calm, "Writing", (calm.line_of_byte(room), room))?;
+    for fails in [false, true] {
+        let mut reader = PieceReader::new(script, most, false);
+        let mut writer = PieceWriter::new(alloc, room, most, fails);
+        let found = play(alloc, setting, &mut reader, &mut writer)?;
+        let place = format!(in alloc; "a writer that breaks behind {room} bytes, {most} at once")?;
+        same(alloc, place.as_str(), expected.as_str(), found.as_str())?;
+    }
+    Ok(())
+}
+
+/// Neither fails, and the last line has no LF.
+fn play_whole(
+    alloc: Global,
+    setting: &Setting<'_>,
+    calm: &Played,
+    (script, most): (&[u8], usize),
+) -> Result<(), Wrong> {
+    let (front, _) = script.split_at(script.len().saturating_sub(1));
+    let mut reader = PieceReader::new(front, most, false);
+    let mut writer = PieceWriter::new(alloc, usize::MAX, most, true);
+    let found = play(alloc, setting, &mut reader, &mut writer)?;
+    let expected = expected_outcome(alloc, calm, "the end", (calm.steps.len(), usize::MAX))?;
+    let place = format!(in alloc; "{most} bytes at once")?;
+    same(alloc, place.as_str(), expected.as_str(), found.as_str())
+}
+
+/// Plays a session on a new machine: what it came to.
+fn play(
+    alloc: Global,
+    setting: &Setting<'_>,
+    reader: &mut PieceReader<'_>,
+    writer: &mut PieceWriter,
+) -> Result<String, Wrong> {
+    play_counted::<Brand>(alloc, Blank::new(1), setting, reader, writer)
+}
+
+/// The same, with a store whose refusals are counted from a blank on.
+fn play_counted<L: Ledger>(
+    alloc: Global,
+    blank: Blank,
+    setting: &Setting<'_>,
+    reader: &mut PieceReader<'_>,
+    writer: &mut PieceWriter,
+) -> Result<String, Wrong>
+    requires name { blank.name ≡ L.name }
+    requires parts { blank.parts ≡ L.parts }
+    requires some { 0 < blank.parts }
+{
+    let shelf = Shelf::<L>::new(alloc, blank, setting.files, 0)?;
+    let panel = new_panel(alloc, setting)?;
+    let heap = alloc;
+    let mut bench = Bench { heap, panel, shelf };
+    play_on(alloc, setting, &mut bench, reader, writer)
+}
+
+/// The same, on this machine.
+fn play_on<L: Ledger>(
+    alloc: Global,
+    setting: &Setting<'_>,
+    bench: &mut Bench<L, Global>,
+    reader: &mut PieceReader<'_>,
+    writer: &mut PieceWriter,
+) -> Result<String, Wrong> {
+    let end = match session(alloc, &mut bench.panel, &mut bench.shelf, reader, writer) {
+        Ok(_) => "the end",
+        Err(SessionFault::Reading) => "Reading",
+        Err(SessionFault::Writing) => "Writing",
+        Err(SessionFault::TooLong) => "TooLong",
+    };
+    let written = text_of(alloc, writer.take(alloc))?;
+    let state = bench.state(alloc, setting)?;
+    Ok(outcome(alloc, end, written.as_str(), state.as_str())?)
+}
