@@ -1,4 +1,4 @@
-ghost use Rattle.std.specs.Prelude.{◌≡◌, ◌%◌, ◌^◌, ◌<◌, true};
+ghost use Rattle.std.specs.Prelude.{◌≡◌, ◌+◌, ◌*◌, ◌%◌, ◌^◌, ◌<◌, true};
 ghost use Rattle.p11_kt11.specs.Reference.{any_cause, block_number, causes_of, forbids, is_absent, is_beyond, no_cause, no_page, page_number, physical, unmapped};
 
 use crate::page::{Access, Descriptor, Growth, Page};
@@ -128,6 +128,16 @@ pub(crate) fn block_number(address: u16) -> u8
     (address >> 6 & 0o177) as u8
 }
 
+/// The place of a virtual address in its page, bits 12:0.
+#[tactic(auto, unfolding(crate::specs::Reference::block_number))]
+#[inline(always)]
+fn displacement(address: u16) -> u32
+    ensures value { result ≡ block_number address * 0o100 + address % 0o100 }
+    ensures bound { result < 0o20000 }
+{
+    u32::from(address & 0o17777)
+}
+
 /// The physical address of a virtual address through a page.
 #[tactic(auto, unfolding(crate::specs::Reference::physical))]
 #[inline(always)]
@@ -136,9 +146,7 @@ pub(crate) fn physical(page: Page, address: u16) -> u32
     ensures bound { result < 2 ^ 18 }
     ensures parity { result % 2 ≡ address % 2 }
 {
-    let block = u32::from(page.address) + u32::from(block_number(address));
-    let displacement = u32::from(address & 0o77);
-    (block * 0o100 + displacement) & 0o777777
+    (u32::from(page.address) * 0o100 + displacement(address)) & 0o777777
 }
 
 /// The physical address of a virtual address while mapping is off: the upper 8 KB are the I/O page.

@@ -24,6 +24,7 @@ pub enum Register {
 impl Register {
     /// The register that stands at a bus address of 18 bits, if one does.
     #[tactic(auto, unfolding(crate::specs::Registers::register_at))]
+    #[inline(never)]
     pub fn at(address: u32) -> Option<Register>
         ensures { result ≡ register_at address }
     {
