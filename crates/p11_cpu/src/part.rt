@@ -18,6 +18,7 @@ pub(crate) enum Part {
 }
 
 /// Whether the processor status word stands at a bus address.
+#[inline(always)]
 fn is_status(address: u32) -> bool
     ensures { result ≡ (address == status_address) }
 {
@@ -25,15 +26,17 @@ fn is_status(address: u32) -> bool
 }
 
 impl Part {
-    /// The one that answers at a bus address.
-    #[tactic(auto, unfolding(crate::specs::References::part_at))]
+    /// The one that answers at a bus address. Memory management is asked first, so that one comparison finds memory on
+    /// the bus.
+    #[tactic(auto, unfolding(crate::specs::References::part_at, p11_kt11::specs::Registers::answers, p11_kt11::specs::Register::register_at, p11_kt11::specs::Register::page_from))]
+    #[inline(always)]
     pub fn at(address: u32) -> Part
         ensures { result ≡ part_at address }
     {
-        if is_status(address) {
-            Part::Status
-        } else if Kt11::answers(address) {
+        if Kt11::answers(address) {
             Part::Management
+        } else if is_status(address) {
+            Part::Status
         } else {
             Part::Bus
         }

@@ -83,6 +83,7 @@ impl<A: Allocator> Hardware<A> {
 
     /// BR and the conditional branches.
     #[tactic(auto, unfolding(crate::specs::Instructions::moves_of))]
+    #[inline(always)]
     pub fn branch(
         &mut self,
         _turn: TurnNumber,
@@ -151,6 +152,7 @@ impl<A: Allocator> Hardware<A> {
 
     /// SOB.
     #[tactic(auto, unfolding(crate::specs::Instructions::moves_of))]
+    #[inline(always)]
     pub fn sob(&mut self, _turn: TurnNumber, register: Register, count: Count) -> Result<(), Trap>
         ensures { execute_of (Op.Sob register count) _turn self.old ≡ (self.new, result) }
     {
