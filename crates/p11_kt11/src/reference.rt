@@ -64,7 +64,7 @@ impl Causes {
     pub(crate) fn any(self) -> bool
         ensures { result ≡ any_cause self }
     {
-        self.non_resident || self.page_length || self.read_only
+        self.non_resident | self.page_length | self.read_only
     }
 }
 

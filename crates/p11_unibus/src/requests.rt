@@ -1,5 +1,5 @@
 //! Requests for interrupts on the bus, and their grants.
-ghost use Rattle.std.specs.Prelude.{◌≡◌};
+ghost use Rattle.std.specs.Prelude.{◌≡◌, true, None};
 ghost use Rattle.p11_unibus.specs.Requests.{bus_after_service, grant_of, highest_request, requests, stands};
 
 use crate::due::nearest;
@@ -11,6 +11,7 @@ use std::alloc::Allocator;
 
 impl<A: Allocator> Unibus<A> {
     /// Whether a source requests an interrupt.
+    #[inline(always)]
     fn requests(&self, source: Source) -> bool
         ensures { result ≡ requests source self.now.visible }
     {
@@ -49,6 +50,16 @@ impl<A: Allocator> Unibus<A> {
         None
     }
 
+    /// Whether no source requests an interrupt.
+    #[tactic(auto, unfolding(crate::specs::Requests::highest_request))]
+    #[inline(always)]
+    fn is_quiet(&self) -> bool
+        ensures { result ≡ true → (p : Priority) → highest_request p self.now.visible ≡ None }
+    {
+        let console = self.requests(Source::Receiver) | self.requests(Source::Transmitter);
+        !(self.requests(Source::Clock) | self.requests(Source::Disk) | console)
+    }
+
     /// Drops the request of a source.
     #[tactic(auto, unfolding(crate::specs::Requests::bus_after_service))]
     fn acknowledge(&mut self, source: Source)
@@ -67,11 +78,15 @@ impl<A: Allocator> Unibus<A> {
 
     /// Grants the highest request above a priority, which drops it: the vector through which it interrupts.
     #[tactic(auto, unfolding(crate::specs::Requests::grant_of))]
+    #[inline(always)]
     pub fn grant(&mut self, priority: Priority) -> Option<Vector>
         ensures outcome { grant_of priority self.old.visible ≡ (self.new.visible, result) }
         ensures memory { self.new.visible.memory ≡ self.old.visible.memory }
         ensures written { self.new.written ≡ self.old.written }
     {
+        if self.is_quiet() {
+            return None;
+        }
         let source = self.highest_request(priority)?;
         self.acknowledge(source);
         Some(source.vector())
