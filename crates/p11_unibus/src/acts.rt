@@ -70,6 +70,15 @@ impl<A: Allocator> Unibus<A> {
         self.nearest = nearest(&self.line, &self.disk);
     }
 
+    /// Whether it is known that no device acts in this turn: nothing that shows changes then.
+    #[tactic(auto, using(crate::proofs::DueLemmas::no_change_yet))]
+    #[inline(always)]
+    pub fn is_idle_in(&self, turn: u64) -> bool
+        ensures { result ≡ true → bus_after_turn turn self.now.visible ≡ self.now.visible }
+    {
+        self.rests(turn)
+    }
+
     /// What the devices do in this turn, each in its place: the receiver, the transmitter, the disk controller. It
     /// wants an empty list of written words, and lists all words of memory to which a disk read may store.
     #[tactic(auto, using(crate::proofs::DueLemmas::no_change_yet, crate::proofs::DueLemmas::no_store_yet, crate::proofs::Listing::nothing_changed))]

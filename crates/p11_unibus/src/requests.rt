@@ -87,6 +87,17 @@ impl<A: Allocator> Unibus<A> {
         if self.is_quiet() {
             return None;
         }
+        self.grant_highest(priority)
+    }
+
+    /// The same where a source may request an interrupt.
+    #[tactic(auto, unfolding(crate::specs::Requests::grant_of))]
+    #[inline(never)]
+    fn grant_highest(&mut self, priority: Priority) -> Option<Vector>
+        ensures outcome { grant_of priority self.old.visible ≡ (self.new.visible, result) }
+        ensures memory { self.new.visible.memory ≡ self.old.visible.memory }
+        ensures written { self.new.written ≡ self.old.written }
+    {
         let source = self.highest_request(priority)?;
         self.acknowledge(source);
         Some(source.vector())
