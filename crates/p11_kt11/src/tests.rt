@@ -1,4 +1,5 @@
-// What no script shows of memory management: how many addresses answer, and which references are served by kept translations.
+// What no script shows of memory management: how many addresses answer, and which references are served by kept
+// translations.
 use crate::{Kind, Kt11, Register};
 use p11_psw::Mode;
 use std::process;

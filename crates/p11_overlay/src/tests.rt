@@ -1,5 +1,5 @@
-// What no session shows of a drive: memory that is refused. Sessions mount images of all lengths, write sectors, list and
-// save them.
+// What no session shows of a drive: memory that is refused. Sessions mount images of all lengths, write sectors, list
+// and save them.
 use crate::Drive;
 use linked_list_allocator::LocalHeap;
 use std::test::Fail;

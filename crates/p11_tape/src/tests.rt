@@ -101,8 +101,8 @@ fn faults_say_what_and_where(rt: HostRuntime) -> Result<(), Fail> {
     Ok(())
 }
 
-/// A heap of each size: the tape is refused until its pairs fit, and is read then. Without memory bytes that are no tape
-/// have their own fault, and a tape that holds nothing is read.
+/// A heap of each size: the tape is refused until its pairs fit, and is read then. Without memory bytes that are no
+/// tape have their own fault, and a tape that holds nothing is read.
 #[test]
 fn each_growth_is_refused_in_turn(rt: HostRuntime) -> Result<(), Fail> {
     let mut bytes = Vec::new(rt.alloc());
