@@ -24,6 +24,3 @@ pub use products::{div, mul, one_quotient};
 pub use quotient::Quotient;
 pub use results::{adc, add, carry_rules, cmp, dec, inc, logic, neg, sbc, sub};
 pub use size::Size;
-
-#[cfg(test)]
-mod tests;

@@ -22,8 +22,6 @@ mod registers;
 mod service;
 mod single_operand;
 mod spaces;
-#[cfg(test)]
-mod tests;
 mod trap;
 mod turn;
 mod turn_number;

@@ -10,8 +10,6 @@ mod groups;
 mod laws;
 mod op;
 mod operand;
-#[cfg(test)]
-mod tests;
 
 pub use decoding::decode;
 pub use equality::same;

@@ -7,8 +7,6 @@ mod line;
 mod receiver;
 mod register;
 mod status;
-#[cfg(test)]
-mod tests;
 mod transmitter;
 
 pub use laws::{

@@ -15,8 +15,6 @@ mod page;
 mod reference;
 mod register;
 mod status;
-#[cfg(test)]
-mod tests;
 
 pub use entry::{Entries, Entry};
 pub use kt11::Kt11;

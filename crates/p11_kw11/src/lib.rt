@@ -4,8 +4,6 @@
 mod clock;
 mod laws;
 mod register;
-#[cfg(test)]
-mod tests;
 
 pub use clock::Kw11;
 pub use laws::init_twice_is_init_once;

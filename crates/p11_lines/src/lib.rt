@@ -28,6 +28,3 @@ pub use output::{Broken, put_answer};
 pub use parse::parse_line;
 pub use text::{line_of, text_reads_back};
 pub use words::Words;
-
-#[cfg(test)]
-mod tests;

@@ -11,6 +11,3 @@ pub use geometry::{
     ALL_SECTORS, CYLINDERS, IMAGE_BYTES, SECTOR_BYTES, SECTORS_PER_TRACK, SURFACES,
 };
 pub use laws::geometry_of_a_pack;
-
-#[cfg(test)]
-mod tests;

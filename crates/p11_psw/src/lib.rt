@@ -5,8 +5,6 @@ mod laws;
 mod mode;
 mod priority;
 mod psw;
-#[cfg(test)]
-mod tests;
 mod vector;
 
 pub use laws::{

@@ -28,6 +28,3 @@ pub use memory::WordMemory;
 pub use mounted::PendingSeek;
 pub use register::Register;
 pub use sector::Stores;
-
-#[cfg(test)]
-mod tests;

@@ -7,8 +7,6 @@ mod bytes;
 mod fault;
 mod laws;
 mod tape;
-#[cfg(test)]
-mod tests;
 
 pub use bytes::TapeBytes;
 pub use fault::{TapeFault, TapeFaultKind};

@@ -37,6 +37,3 @@ pub use register::Register;
 pub use source::Source;
 pub use unibus::Unibus;
 pub use written::Written;
-
-#[cfg(test)]
-mod tests;

@@ -1,7 +1,7 @@
 // What no session shows of a drive: memory that is refused. Sessions mount images of all lengths, write sectors, list
 // and save them.
-use crate::Drive;
 use linked_list_allocator::LocalHeap;
+use p11_overlay::Drive;
 use std::test::Fail;
 
 #[test]

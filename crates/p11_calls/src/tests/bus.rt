@@ -1,5 +1,5 @@
 // What no session shows of the bus: the words of memory that were written, and the next due turn.
-use crate::Unibus;
+use p11_unibus::Unibus;
 use std::test::Fail;
 
 /// The last turn that there can be, 2^62.

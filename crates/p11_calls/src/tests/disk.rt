@@ -1,5 +1,5 @@
 // What no session shows of the controller: the registers' addresses, one by one.
-use crate::Register;
+use p11_rk11::Register;
 
 #[test]
 fn each_register_has_its_address(rt: HostRuntime) {

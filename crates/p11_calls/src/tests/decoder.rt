@@ -1,5 +1,5 @@
 // What no script shows of the decoder: equality, counts, and how many words are reserved.
-use crate::{
+use p11_decode::{
     Count, Mode, Op, Operand, Register, Size, at_most_one_row_fits, decode, same,
     the_row_that_fits_decides,
 };

@@ -1,6 +1,6 @@
 // Quotients, and whether they fit, which no session shows by itself. Sessions have the results and codes of every
 // operation.
-use super::*;
+use p11_alu::*;
 
 /// The codes whose letters the text has.
 fn codes(text: &str) -> Codes {

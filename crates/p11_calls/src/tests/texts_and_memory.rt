@@ -1,6 +1,6 @@
 // Lines and texts where each growth is refused in turn.
-use crate::{Fault, line_of, parse_line};
 use linked_list_allocator::LocalHeap;
+use p11_lines::{Fault, line_of, parse_line};
 use std::alloc::{AllocError, Global};
 use std::process::Abort;
 use std::test::Fail;

@@ -1,6 +1,6 @@
 // What no session shows of the console line: memory that is refused, and none that 64 keys take.
-use crate::{Dl11, KeysFull};
 use linked_list_allocator::LocalHeap;
+use p11_dl11::{Dl11, KeysFull};
 use std::process::Abort;
 use std::test::Fail;
 

@@ -1,4 +1,4 @@
-use crate::{Kw11, Register};
+use p11_kw11::{Kw11, Register};
 
 /// A new clock, and each way in which a request comes and goes.
 #[test]

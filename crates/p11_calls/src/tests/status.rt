@@ -1,4 +1,4 @@
-use crate::{Mode, Priority, Psw, Vector};
+use p11_psw::{Mode, Priority, Psw, Vector};
 use std::test::Fail;
 
 /// A word and the status that it says, at both ends of every field.

@@ -1,6 +1,6 @@
 // Tapes byte for byte, what is wrong with them and where, and what is read with memory and without.
-use crate::{TapeBytes, TapeFault, TapeFaultKind, read_tape};
 use linked_list_allocator::LocalHeap;
+use p11_tape::{TapeBytes, TapeFault, TapeFaultKind, read_tape};
 use std::alloc::Global;
 use std::test::Fail;
 

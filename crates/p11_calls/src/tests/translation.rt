@@ -1,6 +1,6 @@
 // What no script shows of memory management: how many addresses answer, and which references are served by kept
 // translations.
-use crate::{Kind, Kt11, Register};
+use p11_kt11::{Kind, Kt11, Register};
 use p11_psw::Mode;
 use std::process;
 

@@ -1,5 +1,5 @@
 // How many writes a text is. The tests of the panel have writers that stop.
-use crate::{Answer, Words, put_answer};
+use p11_lines::{Answer, Words, put_answer};
 use std::io::{self, Write};
 use std::test::Fail;
 

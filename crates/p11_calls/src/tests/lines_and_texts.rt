@@ -1,5 +1,5 @@
 // Lines that are read and written. What is no line is shown by sessions.
-use crate::{Fault, line_of, parse_line, text_reads_back};
+use p11_lines::{Fault, line_of, parse_line, text_reads_back};
 use std::test::Fail;
 
 /// A line as it may be spelled, and its own text.

@@ -1,0 +1,15 @@
+mod arithmetic;
+mod bus;
+mod clock;
+mod console_line;
+mod decoded_lines;
+mod decoder;
+mod disk;
+mod drive;
+mod lines_and_texts;
+mod machine;
+mod status;
+mod tapes;
+mod texts_and_memory;
+mod translation;
+mod writers;

@@ -1,4 +1,0 @@
-// Lines and answers as texts.
-mod memory;
-mod reading;
-mod writers;
