@@ -50,8 +50,8 @@ impl Played {
     }
 }
 
-/// Plays lines on a new machine with ample memory, on a store that refuses its call of this number, and none where it is
-/// 0.
+/// Plays lines on a new machine with ample memory, on a store that refuses its call of this number, and none where it
+/// is 0.
 pub(crate) fn play_calmly(
     alloc: Global,
     setting: &Setting<'_>,

@@ -112,6 +112,13 @@ impl Places {
         }
     }
 
+    pub(crate) fn at_least(least: u32) -> Places {
+        Places {
+            least,
+            most: u32::MAX,
+        }
+    }
+
     /// Compares a number of places with what it is to be.
     pub(crate) fn judge(self, alloc: Global, name: &str, count: u32) -> Result<(), Wrong> {
         if self.least <= count && count <= self.most {

@@ -12,14 +12,15 @@ use std::alloc::Global;
 /// - none, or `#`: nothing.
 /// - `= NAME` begins a case.
 /// - `> LINE`: a line of its script, which nothing refuses; `> LINE; LINE` two, and so on.
-/// - `+ LEAST MOST LINE; LINE`: such lines, each refused at so many places at least and at most, where `-` is any number.
+/// - `+ LEAST MOST LINE; LINE`: such lines, each refused at so many places at least and at most, where `-` is any
+///   number.
 /// - `^ LEAST MOST`: at how many places the new machine is refused.
 /// - `? LINE`: the answer of this line belongs to the state, beside the registers, the devices and the changed sectors.
 /// - `& NAME`: the session leaves a file of this name, whose bytes are compared too.
 /// - `@ NAME TIMES BYTES..`: a file in the store from here on, of these hexadecimal bytes, so many times over.
 /// - `! K N`: from here on machines have K thousand (1,024) words of memory and keep N decoded words.
-/// - `% memory BYTES PIECE`: from here on each growth is refused; the machine stands on a heap of so many bytes, and free
-///   memory comes back to it in pieces of PIECE bytes.
+/// - `% memory BYTES PIECE`: from here on each growth is refused; the machine stands on a heap of so many bytes, and
+///   free memory comes back to it in pieces of PIECE bytes.
 /// - `% streams`: from here on the reader and the writer fail at each byte.
 /// - `% store`: from here on the store refuses each call; a line that is refused at one place makes a call.
 #[derive(Drop)]

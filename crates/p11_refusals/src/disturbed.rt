@@ -50,8 +50,8 @@ impl<L: Ledger, A: Allocator + Copy> Disturbed<L, A> {
         Ok(())
     }
 
-    /// Does a line, each of whose growths is refused, and compares it with the undisturbed one: at how many places it was
-    /// refused.
+    /// Does a line, each of whose growths is refused, and compares it with the undisturbed one: at how many places it
+    /// was refused.
     pub(crate) fn finish_line(
         &mut self,
         alloc: Global,

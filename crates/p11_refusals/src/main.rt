@@ -1,14 +1,22 @@
 //! The program `p11_refusals`: what a machine does where memory, a reader, a writer or a store fails, at every place.
 //!
-//! `p11_refusals FILE..` tries the cases of each file (see `Cases`) and prints a line for each. A case is a session that is
-//! played undisturbed first: each line's answer, and the state behind it. Then it is played again where something fails.
+//! `p11_refusals FILE..` tries the cases of each file (see `Cases`) and prints a line for each. A case is a session that
+//! is played undisturbed first: each line's answer, and the state behind it. Then it is played where something fails.
 //!
-//! - Want of memory: the machine stands on a heap of its own, all of whose free memory is taken. Each line is tried until
-//!   it is done. Its answer is `NoMemory`, and the state is as before; or it is a run that memory stopped, and goes on with
-//!   the turns that are left; or it is done. After each refusal a little memory comes back, and where turns were made all
-//!   free memory is taken again, so that each growth is refused in turn. In the end the answers, the parts of a run
-//!   joined, and the states are the undisturbed ones. A run that memory stopped after some turns leaves what a run of just
-//!   so many turns leaves.
+//! - Want of memory: the machine stands on a heap of its own, all of whose free memory is taken. Each line is tried
+//!   until it is done. Its answer is `NoMemory`, and the state is as before; or it is a run that memory stopped, and
+//!   goes on with the turns that are left; or it is done. After each refusal a little memory comes back, and behind a
+//!   turn that wanted some all free memory is taken again, so that each growth is refused in turn. In the end the
+//!   answers, the parts of a run joined, and the states are the undisturbed ones. A run that memory stopped after some
+//!   turns leaves what a run of just so many turns leaves.
+//! - Streams: the reader gives a front of the script and fails; the writer takes a front of the answers, and then fails
+//!   or takes nothing; for each front, and in pieces of several sizes. The state behind it is that of the lines which
+//!   are to be done.
+//! - Stores: each call is refused. The line that made it is told so and changes nothing, and the others are answered as
+//!   if it hadn't been asked.
+//!
+//! What no file can say it tries by hand: sizes, commands with numbers that no line has, lists of commands, and scripts
+//! with other ends of lines, of long lines and without an end.
 //!
 //! Where something differs, the program prints what was to be and what is, and ends with status 1.
 #![tactic(auto)]
@@ -17,19 +25,23 @@ ghost use Rattle.std.specs.Prelude.{◌≡◌, ◌<◌};
 
 mod ballast;
 mod bench;
+mod by_hand;
 mod calm;
 mod case;
 mod cases;
 mod disturbed;
 mod full_heap;
 mod pieces;
+mod scripts;
 mod shelf;
 mod stop;
 mod store_calls;
 mod streams;
 mod wrong;
 
+use crate::by_hand::{give_commands, give_lists, judge_sizes, refuse_a_copy};
 use crate::cases::Cases;
+use crate::scripts::play_scripts;
 use crate::wrong::{Wrong, bad_line};
 use p11_panel::Config;
 use std::alloc::Global;
@@ -63,7 +75,25 @@ fn try_files(rt: &HostRuntime) -> io::Result<bool> {
             }
         }
     }
+    match try_by_hand(rt.alloc()) {
+        Ok(()) => println!(rt;
+            "sizes, commands, lists of commands and scripts: as they are to be"
+        )?,
+        Err(wrong) => {
+            println!(rt; "{wrong}")?;
+            is_right = false;
+        }
+    }
     Ok(is_right)
+}
+
+/// Tries what no file of cases can say.
+fn try_by_hand(alloc: Global) -> Result<(), Wrong> {
+    judge_sizes(alloc)?;
+    give_commands(alloc)?;
+    give_lists(alloc)?;
+    refuse_a_copy(alloc)?;
+    play_scripts(alloc)
 }
 
 /// Tries the cases of a file's text.

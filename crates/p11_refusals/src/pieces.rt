@@ -34,6 +34,23 @@ impl Read for PieceReader<'_> {
     }
 }
 
+/// A reader that gives LF without end, and counts its reads.
+#[derive(Drop)]
+pub(crate) struct EndlessReader {
+    pub(crate) reads: u32,
+}
+
+impl Read for EndlessReader {
+    fn read(&mut self, buf: &mut [u8]) -> io::Result<usize> {
+        if buf.is_empty() {
+            return Ok(0);
+        }
+        self.reads = self.reads.saturating_add(1);
+        buf[0] = b'\n';
+        Ok(1)
+    }
+}
+
 /// A writer that takes so many bytes in pieces of at most so many, and then takes none or fails.
 #[derive(Drop)]
 pub(crate) struct PieceWriter {

@@ -6,7 +6,8 @@ use p11_panel::{Refusals, Store, StoreError};
 use std::alloc::{AllocError, Allocator, Global};
 use std::sync::ledger::{Blank, Ledger};
 
-/// Files in memory, of which one call may be refused. Contracts know how often it has refused, and nothing of its files.
+/// Files in memory, of which one call may be refused. Contracts know how often it has refused, and nothing of its
+/// files.
 #[derive(Drop)]
 pub(crate) struct Shelf<L: Ledger> {
     alloc: Global,

@@ -26,8 +26,8 @@ pub(crate) fn refuse_calls(
     Ok(format!(in alloc; "{calls} calls refused, each told in its line alone")?)
 }
 
-/// Refuses the call of this number, which the line at this place makes: it alone is refused, and the others are answered
-/// as if it hadn't been asked.
+/// Refuses the call of this number, which the line at this place makes: it alone is refused, and the others are
+/// answered as if it hadn't been asked.
 fn refuse_call(
     alloc: Global,
     setting: &Setting<'_>,

@@ -60,8 +60,27 @@ fn answers_of(alloc: Global, calm: &Played, lines: usize) -> Result<String, Allo
 }
 
 /// What a session came to: how it ended, what was written, and the state behind it.
+#[derive(Drop)]
+pub(crate) struct Came {
+    pub(crate) end: String,
+    pub(crate) written: String,
+    pub(crate) state: String,
+}
+
+/// The text of what a session came to.
 fn outcome(alloc: Global, end: &str, written: &str, state: &str) -> Result<String, AllocError> {
     format!(in alloc; "{end}\n{written}\n{state}")
+}
+
+/// Compares what a session came to.
+fn same_outcome(alloc: Global, place: &str, expected: &str, came: &Came) -> Result<(), Wrong> {
+    let found = outcome(
+        alloc,
+        came.end.as_str(),
+        came.written.as_str(),
+        came.state.as_str(),
+    )?;
+    same(alloc, place, expected, found.as_str())
 }
 
 /// What a session comes to that does so many lines, of whose answers so many bytes are written.
@@ -78,7 +97,8 @@ fn expected_outcome(
     Ok(outcome(alloc, end, written, calm.state_behind(lines))?)
 }
 
-/// The reader fails behind so many bytes, of which it gives at most so many at once: just the lines that LF ended are done.
+/// The reader fails behind so many bytes, of which it gives at most so many at once: just the lines that LF ended are
+/// done.
 fn break_reader(
     alloc: Global,
     setting: &Setting<'_>,
@@ -89,10 +109,10 @@ fn break_reader(
     let lines = front.iter().filter(|byte| **byte == b'\n').count();
     let mut reader = PieceReader::new(front, most, true);
     let mut writer = PieceWriter::new(alloc, usize::MAX, most, true);
-    let found = play(alloc, setting, &mut reader, &mut writer)?;
+    let came = play(alloc, setting, &mut reader, &mut writer)?;
     let expected = expected_outcome(alloc, calm, "Reading", (lines, usize::MAX))?;
     let place = format!(in alloc; "a reader that fails behind {given} bytes, {most} at once")?;
-    same(alloc, place.as_str(), expected.as_str(), found.as_str())
+    same_outcome(alloc, place.as_str(), expected.as_str(), &came)
 }
 
 /// The writer fails, or takes nothing, behind so many bytes: the line is done whose answer has the next byte, and no
@@ -107,9 +127,9 @@ fn break_writer(
     for fails in [false, true] {
         let mut reader = PieceReader::new(script, most, false);
         let mut writer = PieceWriter::new(alloc, room, most, fails);
-        let found = play(alloc, setting, &mut reader, &mut writer)?;
+        let came = play(alloc, setting, &mut reader, &mut writer)?;
         let place = format!(in alloc; "a writer that breaks behind {room} bytes, {most} at once")?;
-        same(alloc, place.as_str(), expected.as_str(), found.as_str())?;
+        same_outcome(alloc, place.as_str(), expected.as_str(), &came)?;
     }
     Ok(())
 }
@@ -124,30 +144,36 @@ fn play_whole(
     let (front, _) = script.split_at(script.len().saturating_sub(1));
     let mut reader = PieceReader::new(front, most, false);
     let mut writer = PieceWriter::new(alloc, usize::MAX, most, true);
-    let found = play(alloc, setting, &mut reader, &mut writer)?;
-    let expected = expected_outcome(alloc, calm, "the end", (calm.steps.len(), usize::MAX))?;
+    let came = play(alloc, setting, &mut reader, &mut writer)?;
+    let answered = calm
+        .steps
+        .iter()
+        .filter(|step| !step.answer.is_empty())
+        .count();
+    let end = format!(in alloc; "{answered} lines answered")?;
+    let expected = expected_outcome(alloc, calm, end.as_str(), (calm.steps.len(), usize::MAX))?;
     let place = format!(in alloc; "{most} bytes at once")?;
-    same(alloc, place.as_str(), expected.as_str(), found.as_str())
+    same_outcome(alloc, place.as_str(), expected.as_str(), &came)
 }
 
 /// Plays a session on a new machine: what it came to.
-fn play(
+pub(crate) fn play<R: Read>(
     alloc: Global,
     setting: &Setting<'_>,
-    reader: &mut PieceReader<'_>,
+    reader: &mut R,
     writer: &mut PieceWriter,
-) -> Result<String, Wrong> {
-    play_counted::<Brand>(alloc, Blank::new(1), setting, reader, writer)
+) -> Result<Came, Wrong> {
+    play_counted::<Brand, R>(alloc, Blank::new(1), setting, reader, writer)
 }
 
 /// The same, with a store whose refusals are counted from a blank on.
-fn play_counted<L: Ledger>(
+fn play_counted<L: Ledger, R: Read>(
     alloc: Global,
     blank: Blank,
     setting: &Setting<'_>,
-    reader: &mut PieceReader<'_>,
+    reader: &mut R,
     writer: &mut PieceWriter,
-) -> Result<String, Wrong>
+) -> Result<Came, Wrong>
     requires name { blank.name ≡ L.name }
     requires parts { blank.parts ≡ L.parts }
     requires some { 0 < blank.parts }
@@ -160,20 +186,25 @@ fn play_counted<L: Ledger>(
 }
 
 /// The same, on this machine.
-fn play_on<L: Ledger>(
+fn play_on<L: Ledger, R: Read>(
     alloc: Global,
     setting: &Setting<'_>,
     bench: &mut Bench<L, Global>,
-    reader: &mut PieceReader<'_>,
+    reader: &mut R,
     writer: &mut PieceWriter,
-) -> Result<String, Wrong> {
-    let end = match session(alloc, &mut bench.panel, &mut bench.shelf, reader, writer) {
-        Ok(_) => "the end",
-        Err(SessionFault::Reading) => "Reading",
-        Err(SessionFault::Writing) => "Writing",
-        Err(SessionFault::TooLong) => "TooLong",
+) -> Result<Came, Wrong> {
+    let played = session(alloc, &mut bench.panel, &mut bench.shelf, reader, writer);
+    let end = match played {
+        Ok(lines) => format!(in alloc; "{lines} lines answered")?,
+        Err(SessionFault::Reading) => String::from_str(alloc, "Reading")?,
+        Err(SessionFault::Writing) => String::from_str(alloc, "Writing")?,
+        Err(SessionFault::TooLong) => String::from_str(alloc, "TooLong")?,
     };
     let written = text_of(alloc, writer.take(alloc))?;
     let state = bench.state(alloc, setting)?;
-    Ok(outcome(alloc, end, written.as_str(), state.as_str())?)
+    Ok(Came {
+        end,
+        written,
+        state,
+    })
 }
