@@ -18,8 +18,6 @@ mod run;
 mod script;
 mod shown;
 mod store;
-#[cfg(test)]
-mod tests;
 
 pub use command::Command;
 pub use config::Config;

@@ -1,4 +1,0 @@
-use Rattle.p11_panel.proofs.tests.run_session.Given as goal
-
-abbrev pub ghosts-run_counted : goal.ghosts-run_counted
-ghosts-run_counted g a = record { name = a.blank.name; parts = a.blank.parts }
