@@ -83,8 +83,8 @@ set_console r value h = record h { processor = with_console_register r value h.p
 unfoldable pub set_reg_of : ConsoleRegister → ℕ → State → State
 set_reg_of r value s = with_hardware (set_console r value (hardware_of s)) s
 
--- START: memory management and the bus are initialised, the status is 0, PC the address, and no waiting or halted mark is
--- left; the other registers and the count of turns stay
+-- START: memory management and the bus are initialised, the status is 0, PC the address, and no waiting or halted mark
+-- is left; the other registers and the count of turns stay
 unfoldable pub started : ℕ → HardwareState → HardwareState
 started pc h =
     let reset = initialized h in

@@ -17,8 +17,8 @@ pub record AppendsFront (old new : Option (List ℕ)) (text : List ℕ) : Type 0
   pub split : text ≡ front ++ back
   pub unwritten : 0 < length back
 
--- What putting a text leaves of the writer's bytes and of those that are kept for it, which come before the text. Done, a
--- front of all that is written and the rest of it kept; broken, a front of it is written that isn't all.
+-- What putting a text leaves of the writer's bytes and of those that are kept for it, which come before the text.
+-- Done, a front of all that is written and the rest of it kept; broken, a front of it is written that isn't all.
 pub record Puts (old : Option (List ℕ)) (kept text : List ℕ) (new : Option (List ℕ)) (now_kept : List ℕ)
     (result : Result (Unit {0}) Broken) : Type 0 where
   pub done : OnOk result (Wrote old new (kept ++ text) now_kept)

@@ -1,7 +1,8 @@
 //! The program `p11_refusals`: what a machine does where memory, a reader, a writer or a store fails, at every place.
 //!
-//! `p11_refusals FILE..` tries the cases of each file (see `Cases`) and prints a line for each. A case is a session that
-//! is played undisturbed first: each line's answer, and the state behind it. Then it is played where something fails.
+//! `p11_refusals FILE..` tries the cases of each file (see `Cases`) and prints a line for each. A case is a session
+//! that is played undisturbed first: each line's answer, and the state behind it. Then it is played where something
+//! fails.
 //!
 //! - Want of memory: the machine stands on a heap of its own, all of whose free memory is taken. Each line is tried
 //!   until it is done. Its answer is `NoMemory`, and the state is as before; or it is a run that memory stopped, and

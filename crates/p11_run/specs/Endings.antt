@@ -35,8 +35,8 @@ is_help BadSize = false
 is_help NoMemory = false
 is_help (Session fault) = false
 
--- How it ends once its text was said, or could not be. The status is the cause's, whatever became of its text; but help that
--- can't be said is a write fault, which is then said on standard error.
+-- How it ends once its text was said, or could not be. The status is the cause's, whatever became of its text; but
+-- help that can't be said is a write fault, which is then said on standard error.
 unfoldable pub status_after : Cause → Bool → ℕ
 status_after cause said = if is_help cause && not said then status_of (Session Writing) else status_of cause
 

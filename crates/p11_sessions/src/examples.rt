@@ -16,14 +16,15 @@ const KEPT: [u32; 4] = [0, 1, 1024, 4096];
 ///
 /// - none, or `#`: nothing.
 /// - `= NAME` begins an example.
-/// - `> LINE`: a line of its script; `> LINE; LINE` two, and so on. Any other line is an answer to the script's line above
-///   it, and a script's line with none below it is answered `OK`.
+/// - `> LINE`: a line of its script; `> LINE; LINE` two, and so on. Any other line is an answer to the script's line
+///   above it, and a script's line with none below it is answered `OK`.
 /// - `@ NAME TIMES BYTES..`: a file in the store from here on, of these hexadecimal bytes, so many times over.
-/// - `& NAME TIMES BYTES..`: the store has these bytes under the name when the session of the example is over. Of several
-///   such lines with one name each adds its bytes.
-/// - `! K`: from here on machines have K thousand (1,024) words of memory, and else 28.
-/// - `~LINE`: a line of the outline, one for many examples. `$a`, `$b` and so on in it stand for the cells of a row, and
-///   its line `.` for the lines of an example.
+/// - `& NAME TIMES BYTES..`: the store has these bytes under the name when the session of the example is over. Of
+///   several such lines with one name each adds its bytes.
+/// - `! K`: from this example on machines have K thousand (1,024) words of memory, and else 28. It stands below the
+///   example's name: the example above is played only when the next one begins.
+/// - `~LINE`: a line of the outline, one for many examples. `$a`, `$b` and so on in it stand for the cells of a row,
+///   and its line `.` for the lines of an example.
 /// - `| CELLS`: plays the outline with these cells and the lines of the example above it.
 #[derive(Drop)]
 pub(crate) struct Examples {
@@ -110,7 +111,8 @@ impl Examples {
         Ok(())
     }
 
-    /// Takes a line of an outline, of a new one where the line before is of none. A new outline ends the example above it.
+    /// Takes a line of an outline, of a new one where the line before is of none. A new outline ends the example above
+    /// it.
     fn take_outline(
         &mut self,
         alloc: Global,

@@ -1,9 +1,9 @@
 //! The program `p11_sessions`: plays sessions that are written down with their answers, and says where they differ.
 //!
-//! `p11_sessions FILE..` plays the examples of each file (see `Examples`) and prints how many there are. Each is played on
-//! machines that keep 0, 1, 1,024 and 4,096 decoded words, by itself and with the kept words dropped behind each of its
-//! lines: the answers are the same. Where they aren't what is written down, it prints the example, what is written down
-//! and what was answered instead, and ends with status 1.
+//! `p11_sessions FILE..` plays the examples of each file (see `Examples`) and prints how many there are. Each is
+//! played on machines that keep 0, 1, 1,024 and 4,096 decoded words, by itself and with the kept words dropped behind
+//! each of its lines: the answers are the same. Where they aren't what is written down, it prints the example, what is
+//! written down and what was answered instead, and ends with status 1.
 #![tactic(auto)]
 
 ghost use Rattle.std.specs.Prelude.{◌≡◌, ◌<◌};

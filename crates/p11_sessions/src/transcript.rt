@@ -12,8 +12,8 @@ pub(crate) struct Transcript {
 }
 
 impl Transcript {
-    /// The transcript that these lines write down: a script's lines behind `> `, several on one joined by `; `, and below
-    /// them their answers, which are `OK` where none is written.
+    /// The transcript that these lines write down: a script's lines behind `> `, several on one joined by `; `, and
+    /// below them their answers, which are `OK` where none is written.
     pub(crate) fn of(alloc: Global, text: &str, flushes: bool) -> Result<Transcript, AllocError> {
         let mut transcript = Transcript {
             script: String::new(alloc),
