@@ -4,6 +4,7 @@ ghost use Rattle.std.specs.Prelude.{◌≡◌, ◌<◌, ◌≤◌, ◌^◌, [], 
 ghost use Rattle.p11_rk11.specs.Acts.{stores_of};
 ghost use Rattle.p11_rk11.specs.View as disks;
 ghost use Rattle.p11_unibus.specs.Acts.{bus_after_disk, bus_after_line, bus_after_turn};
+ghost use Rattle.p11_unibus.specs.Due.{comes_before, nearest_of};
 ghost use Rattle.p11_unibus.specs.Prepared.{IsPreparedFor, disk_view, needs_memory, types_in};
 ghost use Rattle.p11_unibus.specs.Written.{ChangedOnly};
 
@@ -70,11 +71,12 @@ impl<A: Allocator> Unibus<A> {
         self.nearest = nearest(&self.line, &self.disk);
     }
 
-    /// Whether it is known that no device acts in this turn: nothing that shows changes then.
+    /// Whether this turn comes before the nearest due turn, so that nothing that shows changes by the devices' acts.
     #[tactic(auto, using(crate::proofs::DueLemmas::no_change_yet))]
     #[inline(always)]
     pub fn is_idle_in(&self, turn: u64) -> bool
-        ensures { result ≡ true → bus_after_turn turn self.now.visible ≡ self.now.visible }
+        ensures before { result ≡ comes_before turn (nearest_of self.now.visible) }
+        ensures nothing { result ≡ true → bus_after_turn turn self.now.visible ≡ self.now.visible }
     {
         self.rests(turn)
     }
