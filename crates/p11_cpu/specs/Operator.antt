@@ -1,4 +1,4 @@
--- What the operator does to a machine between turns, and a new machine.
+-- What the operator does to the processor and to memory between turns, and a new machine.
 use Rattle.std.specs.Prelude.{ℕ, replicate, false, Bool, Option, Some, None, ◌==◌, if◌then◌else◌}
 use Rattle.p11_decode.specs.declared.operand.Register.TheVariants as registers
 use Rattle.p11_kt11.specs.Management.{new_management}
@@ -12,7 +12,7 @@ use Rattle.p11_unibus.specs.Bytes.{has_byte}
 use Rattle.p11_unibus.specs.Events.{bus_after_byte}
 use Rattle.p11_unibus.specs.State.{new_bus}
 use Rattle.p11_cpu.specs.References.{see, change, after_read, answers}
-use Rattle.p11_cpu.specs.ProcessorControl.{initialized}
+use Rattle.p11_cpu.specs.ProcessorControl.{initialized, resumed}
 
 -- a machine of so many thousand words of memory: zeros everywhere
 unfoldable pub new_machine : ℕ → State
@@ -23,6 +23,7 @@ new_machine kwords =
           record {
             registers = record { general = replicate 6 0; kernel_sp = 0; user_sp = 0; pc = 0 };
             status = new_status;
+            stack_limit = 0;
             waiting = false;
             halted = false;
           };
@@ -83,20 +84,12 @@ set_console r value h = record h { processor = with_console_register r value h.p
 unfoldable pub set_reg_of : ConsoleRegister → ℕ → State → State
 set_reg_of r value s = with_hardware (set_console r value (hardware_of s)) s
 
--- START: memory management and the bus are initialised, the status is 0, PC the address, and no waiting or halted mark
+-- START: INIT, as of RESET; the status is 0, PC the address, and no waiting or halted mark
 -- is left; the other registers and the count of turns stay
 unfoldable pub started : ℕ → HardwareState → HardwareState
 started pc h =
-    let reset = initialized h in
-    record reset {
-      processor =
-          record reset.processor {
-            registers = record reset.processor.registers { pc = pc };
-            status = new_status;
-            waiting = false;
-            halted = false;
-          };
-    }
+    let at = resumed pc new_status (initialized h) in
+    record at { processor = record at.processor { waiting = false; halted = false } }
 
 unfoldable pub start_of : ℕ → State → State
 start_of pc s = with_hardware (started pc (hardware_of s)) s

@@ -1,27 +1,28 @@
 //! The central processor of a PDP-11/40 with memory management and its bus, turn by turn.
 //!
 //! In a turn the machine runs one instruction. What it does is defined in `specs/`: `Turns.antt` has the turn,
-//! `Instructions.antt` the list of moves of each instruction.
+//! `Instructions.antt` the steps of each instruction.
 #![tactic(auto)]
 
 mod bus;
 mod decoded_bus;
 mod double_operand;
 mod drives;
+mod extended_instructions;
 mod hardware;
 mod instructions;
 mod machine;
 mod management;
 mod operand;
 mod part;
+mod previous_space;
 mod processor_control;
 mod program_control;
+mod quiet;
 mod references;
-mod register_operand;
 mod registers;
 mod service;
 mod single_operand;
-mod spaces;
 mod trap;
 mod turn;
 mod turn_number;

@@ -1,16 +1,21 @@
 ghost use Rattle.std.specs.Prelude.{◌≡◌, ◌==◌};
-ghost use Rattle.p11_cpu.specs.References.{part_at, status_address};
+ghost use Rattle.p11_cpu.specs.References.{limit_address, part_at, status_address};
 
 use p11_kt11::Kt11;
 
 /// The bus address of the processor status word.
 const STATUS_ADDRESS: u32 = 0o777776;
 
+/// The bus address of the stack limit register.
+const LIMIT_ADDRESS: u32 = 0o777774;
+
 /// What answers at a bus address.
 #[derive(Clone, Copy, Debug, PartialEq, Eq)]
 pub(crate) enum Part {
     /// The processor: its status word.
     Status,
+    /// The processor: its stack limit register.
+    StackLimit,
     /// A register of memory management.
     Management,
     /// What is on the bus, if anything is there.
@@ -25,6 +30,14 @@ fn is_status(address: u32) -> bool
     address == STATUS_ADDRESS
 }
 
+/// Whether the stack limit register stands at a bus address.
+#[inline(always)]
+fn is_limit(address: u32) -> bool
+    ensures { result ≡ (address == limit_address) }
+{
+    address == LIMIT_ADDRESS
+}
+
 impl Part {
     /// The one that answers at a bus address. Memory management is asked first, so that one comparison finds memory on
     /// the bus.
@@ -37,6 +50,8 @@ impl Part {
             Part::Management
         } else if is_status(address) {
             Part::Status
+        } else if is_limit(address) {
+            Part::StackLimit
         } else {
             Part::Bus
         }

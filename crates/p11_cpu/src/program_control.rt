@@ -1,4 +1,4 @@
-ghost use Rattle.std.specs.Prelude.{◌≡◌, ◌==◌};
+ghost use Rattle.std.specs.Prelude.{◌≡◌, ℕ, ◌==◌};
 ghost use Rattle.p11_cpu.specs.Instructions.{execute_of};
 ghost use Rattle.p11_cpu.specs.ProgramControl.{is_taken, branch_address, branched, counted_back};
 
@@ -82,22 +82,17 @@ impl<A: Allocator> Hardware<A> {
     }
 
     /// BR and the conditional branches.
-    #[tactic(auto, unfolding(crate::specs::Instructions::moves_of))]
+    #[tactic(auto, unfolding(crate::specs::Instructions::execute_of))]
     #[inline(always)]
-    pub fn branch(
-        &mut self,
-        _turn: TurnNumber,
-        condition: Condition,
-        offset: u8,
-    ) -> Result<(), Trap>
-        ensures { execute_of (Op.Branch condition offset) _turn self.old ≡ (self.new, result) }
+    pub fn branch(&mut self, condition: Condition, offset: u8) -> Result<(), Trap>
+        ensures { (turn : ℕ) → execute_of (Op.Branch condition offset) turn self.old ≡ (self.new, result) }
     {
         self.take_branch(condition, offset);
         Ok(())
     }
 
     /// JMP.
-    #[tactic(auto, unfolding(crate::specs::Instructions::moves_of))]
+    #[tactic(auto, unfolding(crate::specs::Instructions::execute_of))]
     pub fn jmp(&mut self, turn: TurnNumber, operand: Operand) -> Result<(), Trap>
         ensures { execute_of (Op.Jmp operand) turn self.old ≡ (self.new, result) }
     {
@@ -107,7 +102,7 @@ impl<A: Allocator> Hardware<A> {
     }
 
     /// JSR.
-    #[tactic(auto, unfolding(crate::specs::Instructions::moves_of))]
+    #[tactic(auto, unfolding(crate::specs::Instructions::execute_of))]
     pub fn jsr(
         &mut self,
         turn: TurnNumber,
@@ -125,7 +120,7 @@ impl<A: Allocator> Hardware<A> {
     }
 
     /// RTS.
-    #[tactic(auto, unfolding(crate::specs::Instructions::moves_of))]
+    #[tactic(auto, unfolding(crate::specs::Instructions::execute_of))]
     pub fn rts(&mut self, turn: TurnNumber, register: Register) -> Result<(), Trap>
         ensures { execute_of (Op.Rts register) turn self.old ≡ (self.new, result) }
     {
@@ -137,7 +132,7 @@ impl<A: Allocator> Hardware<A> {
     }
 
     /// MARK.
-    #[tactic(auto, unfolding(crate::specs::Instructions::moves_of))]
+    #[tactic(auto, unfolding(crate::specs::Instructions::execute_of))]
     pub fn mark(&mut self, turn: TurnNumber, count: Count) -> Result<(), Trap>
         ensures { execute_of (Op.Mark count) turn self.old ≡ (self.new, result) }
     {
@@ -151,10 +146,10 @@ impl<A: Allocator> Hardware<A> {
     }
 
     /// SOB.
-    #[tactic(auto, unfolding(crate::specs::Instructions::moves_of))]
+    #[tactic(auto, unfolding(crate::specs::Instructions::execute_of))]
     #[inline(always)]
-    pub fn sob(&mut self, _turn: TurnNumber, register: Register, count: Count) -> Result<(), Trap>
-        ensures { execute_of (Op.Sob register count) _turn self.old ≡ (self.new, result) }
+    pub fn sob(&mut self, register: Register, count: Count) -> Result<(), Trap>
+        ensures { (turn : ℕ) → execute_of (Op.Sob register count) turn self.old ≡ (self.new, result) }
     {
         self.set_register(register, minus(self.register(register), 1));
         self.count_back(register, count);

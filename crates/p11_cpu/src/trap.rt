@@ -5,4 +5,6 @@ use p11_psw::Vector;
 pub(crate) enum Trap {
     /// The service of this vector follows.
     Through(Vector),
+    /// A step of the kernel's stack pointer was into the red zone: the fatal service follows.
+    RedZone,
 }

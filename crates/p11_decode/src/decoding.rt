@@ -1,7 +1,7 @@
 ghost use Rattle.std.specs.Prelude.{◌≡◌, ◌<◌, ◌%◌, ◌/◌, ◌++◌};
 ghost use Rattle.p11_decode.specs.Table.{code_rows, control_rows, double_rows, first_fit, in_register, mode_at, named_codes, op_of, operand_at, operate_rows, register_at, register_rows, return_rows, single_rows, size, sized_double_rows, trap_rows};
 
-use crate::groups::{CodesOp, DoubleOp, FillOp, JudgeOp, ReturnOp, SingleOp, TrapOp};
+use crate::groups::{CodesOp, CompareOp, ModifyOp, ReturnOp, SingleOp, StoreOnlyOp, TrapOp};
 use crate::op::{Condition, Count, NamedCodes, Op};
 use crate::operand::{Mode, Operand, Register, Size};
 
@@ -99,7 +99,7 @@ pub fn decode(word: u16) -> Op
     let size = size_of(word);
     let destination = operand_of(word);
     match word & 0o077700 {
-        0o005000 => Op::Fill(FillOp::Clr, size, destination),
+        0o005000 => Op::StoreOnly(StoreOnlyOp::Clr, size, destination),
         0o005100 => Op::Single(SingleOp::Com, size, destination),
         0o005200 => Op::Single(SingleOp::Inc, size, destination),
         0o005300 => Op::Single(SingleOp::Dec, size, destination),
@@ -125,7 +125,7 @@ fn decode_single(word: u16) -> Op
         0o006400 => Op::Mark(count_of(word)),
         0o006500 => Op::Mfpi(destination),
         0o006600 => Op::Mtpi(destination),
-        0o006700 => Op::Fill(FillOp::Sxt, Size::Word, destination),
+        0o006700 => Op::StoreOnly(StoreOnlyOp::Sxt, Size::Word, destination),
         _ => decode_sized_double(word),
     }
 }
@@ -138,10 +138,10 @@ fn decode_sized_double(word: u16) -> Op
     let destination = operand_of(word);
     match word & 0o070000 {
         0o010000 => Op::Mov(size, source, destination),
-        0o020000 => Op::Judge(JudgeOp::Cmp, size, source, destination),
-        0o030000 => Op::Judge(JudgeOp::Bit, size, source, destination),
-        0o040000 => Op::Double(DoubleOp::Bic, size, source, destination),
-        0o050000 => Op::Double(DoubleOp::Bis, size, source, destination),
+        0o020000 => Op::Compare(CompareOp::Cmp, size, source, destination),
+        0o030000 => Op::Compare(CompareOp::Bit, size, source, destination),
+        0o040000 => Op::Modify(ModifyOp::Bic, size, source, destination),
+        0o050000 => Op::Modify(ModifyOp::Bis, size, source, destination),
         _ => decode_double(word),
     }
 }
@@ -152,8 +152,8 @@ fn decode_double(word: u16) -> Op
     let source = operand_of(word >> 6);
     let destination = operand_of(word);
     match word & 0o170000 {
-        0o060000 => Op::Double(DoubleOp::Add, Size::Word, source, destination),
-        0o160000 => Op::Double(DoubleOp::Sub, Size::Word, source, destination),
+        0o060000 => Op::Modify(ModifyOp::Add, Size::Word, source, destination),
+        0o160000 => Op::Modify(ModifyOp::Sub, Size::Word, source, destination),
         _ => decode_with_register(word),
     }
 }
@@ -169,7 +169,7 @@ fn decode_with_register(word: u16) -> Op
         0o071000 => Op::Div(register, operand),
         0o072000 => Op::Ash(register, operand),
         0o073000 => Op::Ashc(register, operand),
-        0o074000 => Op::Double(DoubleOp::Xor, Size::Word, in_register(register), operand),
+        0o074000 => Op::Modify(ModifyOp::Xor, Size::Word, in_register(register), operand),
         0o077000 => Op::Sob(register, count_of(word)),
         _ => decode_branch(word),
     }

@@ -1,6 +1,6 @@
 ghost use Rattle.std.specs.Prelude.{◌≡◌, ◌↔◌, IsTrue};
 
-use crate::groups::{CodesOp, DoubleOp, FillOp, JudgeOp, ReturnOp, SingleOp, TrapOp};
+use crate::groups::{CodesOp, CompareOp, ModifyOp, ReturnOp, SingleOp, StoreOnlyOp, TrapOp};
 use crate::op::{Condition, Count, NamedCodes, Op};
 use crate::operand::{Operand, Register, Size};
 
@@ -46,19 +46,19 @@ fn same_single_op(a: SingleOp, b: SingleOp) -> bool
     a == b
 }
 
-fn same_fill_op(a: FillOp, b: FillOp) -> bool
+fn same_store_only_op(a: StoreOnlyOp, b: StoreOnlyOp) -> bool
     ensures { IsTrue result ↔ (a ≡ b) }
 {
     a == b
 }
 
-fn same_double_op(a: DoubleOp, b: DoubleOp) -> bool
+fn same_modify_op(a: ModifyOp, b: ModifyOp) -> bool
     ensures { IsTrue result ↔ (a ≡ b) }
 {
     a == b
 }
 
-fn same_judge_op(a: JudgeOp, b: JudgeOp) -> bool
+fn same_compare_op(a: CompareOp, b: CompareOp) -> bool
     ensures { IsTrue result ↔ (a ≡ b) }
 {
     a == b
@@ -90,15 +90,15 @@ pub fn same(a: Op, b: Op) -> bool
         (Op::Single(a0, a1, a2), Op::Single(b0, b1, b2)) => same_single_op(*a0, *b0)
             && same_size(*a1, *b1)
             && same_operand(*a2, *b2),
-        (Op::Fill(a0, a1, a2), Op::Fill(b0, b1, b2)) => same_fill_op(*a0, *b0)
+        (Op::StoreOnly(a0, a1, a2), Op::StoreOnly(b0, b1, b2)) => same_store_only_op(*a0, *b0)
             && same_size(*a1, *b1)
             && same_operand(*a2, *b2),
         (Op::Tst(a0, a1), Op::Tst(b0, b1)) => same_size(*a0, *b0) && same_operand(*a1, *b1),
-        (Op::Double(a0, a1, a2, a3), Op::Double(b0, b1, b2, b3)) => same_double_op(*a0, *b0)
+        (Op::Modify(a0, a1, a2, a3), Op::Modify(b0, b1, b2, b3)) => same_modify_op(*a0, *b0)
             && same_size(*a1, *b1)
             && same_operand(*a2, *b2)
             && same_operand(*a3, *b3),
-        (Op::Judge(a0, a1, a2, a3), Op::Judge(b0, b1, b2, b3)) => same_judge_op(*a0, *b0)
+        (Op::Compare(a0, a1, a2, a3), Op::Compare(b0, b1, b2, b3)) => same_compare_op(*a0, *b0)
             && same_size(*a1, *b1)
             && same_operand(*a2, *b2)
             && same_operand(*a3, *b3),

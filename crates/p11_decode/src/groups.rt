@@ -20,7 +20,7 @@ pub enum SingleOp {
 
 /// Instructions that write a value to an operand without a read of it.
 #[derive(Clone, Copy, Debug, PartialEq, Eq)]
-pub enum FillOp {
+pub enum StoreOnlyOp {
     Clr,
     /// Has no byte form.
     Sxt,
@@ -28,7 +28,7 @@ pub enum FillOp {
 
 /// Instructions that work out a value from a source and a destination, and write it to the destination.
 #[derive(Clone, Copy, Debug, PartialEq, Eq)]
-pub enum DoubleOp {
+pub enum ModifyOp {
     Bic,
     Bis,
     /// Has no byte form.
@@ -41,7 +41,7 @@ pub enum DoubleOp {
 
 /// Instructions that set the condition codes by a source and a destination, and write neither.
 #[derive(Clone, Copy, Debug, PartialEq, Eq)]
-pub enum JudgeOp {
+pub enum CompareOp {
     Cmp,
     Bit,
 }

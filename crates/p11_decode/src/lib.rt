@@ -13,7 +13,7 @@ mod operand;
 
 pub use decoding::decode;
 pub use equality::same;
-pub use groups::{CodesOp, DoubleOp, FillOp, JudgeOp, ReturnOp, SingleOp, TrapOp};
+pub use groups::{CodesOp, CompareOp, ModifyOp, ReturnOp, SingleOp, StoreOnlyOp, TrapOp};
 pub use laws::{at_most_one_row_fits, the_row_that_fits_decides};
 pub use op::{Condition, Count, NamedCodes, Op};
 pub use operand::{Mode, Operand, Register, Size};

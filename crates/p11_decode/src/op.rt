@@ -1,6 +1,6 @@
 ghost use Rattle.std.specs.Prelude.{◌≡◌, ℕ, ◌<◌};
 
-use crate::groups::{CodesOp, DoubleOp, FillOp, JudgeOp, ReturnOp, SingleOp, TrapOp};
+use crate::groups::{CodesOp, CompareOp, ModifyOp, ReturnOp, SingleOp, StoreOnlyOp, TrapOp};
 use crate::operand::{Operand, Register, Size};
 use std::marker::Model;
 
@@ -90,13 +90,13 @@ pub enum Op {
     /// Reads an operand, works out a value from it, and writes the value back.
     Single(SingleOp, Size, Operand),
     /// Writes a value to an operand that isn't read.
-    Fill(FillOp, Size, Operand),
+    StoreOnly(StoreOnlyOp, Size, Operand),
     Tst(Size, Operand),
     /// Works out a value from source and destination, and writes it to the destination. The source of XOR is its
     /// register, in mode 0.
-    Double(DoubleOp, Size, Operand, Operand),
+    Modify(ModifyOp, Size, Operand, Operand),
     /// Sets the condition codes by source and destination.
-    Judge(JudgeOp, Size, Operand, Operand),
+    Compare(CompareOp, Size, Operand, Operand),
     Mov(Size, Operand, Operand),
     Mul(Register, Operand),
     Div(Register, Operand),

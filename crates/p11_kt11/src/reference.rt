@@ -1,5 +1,6 @@
-ghost use Rattle.std.specs.Prelude.{◌≡◌, ◌+◌, ◌*◌, ◌%◌, ◌^◌, ◌<◌, true};
+ghost use Rattle.std.specs.Prelude.{◌≡◌, ◌+◌, ◌*◌, ◌%◌, ◌^◌, ◌<◌, true, IfErr, IfOk};
 ghost use Rattle.p11_kt11.specs.Reference.{any_cause, block_number, causes_of, forbids, is_absent, is_beyond, no_cause, no_page, page_number, physical, unmapped};
+ghost use Rattle.p11_kt11.specs.Translation.{through};
 
 use crate::page::{Access, Descriptor, Growth, Page};
 
@@ -162,4 +163,19 @@ pub(crate) fn unmapped(address: u16) -> u32
     } else {
         u32::from(address) + 0o600000
     }
+}
+
+/// The physical address of a reference through a page, or the causes against it.
+#[tactic(auto, unfolding(crate::specs::Translation::through))]
+pub(crate) fn through(page: Page, address: u16, kind: Kind) -> Result<u32, Abort>
+    ensures value { result ≡ through page address kind }
+    ensures bound { IfOk result (λ p. p < 2 ^ 18) }
+    ensures parity { IfOk result (λ p. p % 2 ≡ address % 2) }
+    ensures caused { IfErr result (λ abort. any_cause abort.causes ≡ true) }
+{
+    let causes = Causes::against(page.descriptor, block_number(address), kind);
+    if causes.any() {
+        return Err(Abort { causes });
+    }
+    Ok(physical(page, address))
 }

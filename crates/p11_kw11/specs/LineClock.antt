@@ -1,4 +1,5 @@
--- The KW11-L line clock. A tick of the line sets its monitor bit, and interrupts where the program has enabled it.
+-- The KW11-L line clock. A tick of the line sets its monitor bit, and interrupts where the program has enabled it. The
+-- operator ticks the line by hand, or sets a period after which it ticks by itself, again and again.
 use Rattle.std.specs.Prelude.{ℕ, ◌+◌, ◌/◌, ◌%◌, Bool, true, false, ◌==◌, ◌&&◌, ◌||◌, not, Option, Some, None, if◌then◌else◌}
 use Rattle.p11_kw11.specs.declared.register.Register.{Register}
 use Rattle.p11_kw11.specs.declared.register.Register.TheVariants.{Status}
@@ -10,6 +11,10 @@ pub record LineClock : Type 0 where
   pub enable : Bool
   -- an interrupt is requested
   pub request : Bool
+  -- from one tick to the next of themselves there are so many turns; with 0 the line doesn't tick by itself
+  pub period : ℕ
+  -- the turn in which the line next ticks by itself, if it does
+  pub due : Option ℕ
 
 -- the register at a bus address, if it is the clock's
 unfoldable pub register_at : ℕ → Option Register
@@ -23,12 +28,13 @@ flag is_set weight = if is_set then weight else 0
 abbrev pub bit_of : ℕ → ℕ → Bool
 bit_of word weight = word / weight % 2 == 1
 
--- a new clock, and the clock after INIT: monitor set, interrupts disabled, no request
+-- a new clock: monitor set, interrupts disabled, no request; the line doesn't tick by itself
 unfoldable pub new_clock : LineClock
-new_clock = record { monitor = true; enable = false; request = false }
+new_clock = record { monitor = true; enable = false; request = false; period = 0; due = None }
 
+-- INIT: monitor set, interrupts disabled, no request. When the line ticks is no business of the bus, and stays.
 unfoldable pub clock_after_init : LineClock → LineClock
-clock_after_init k = new_clock
+clock_after_init k = record k { monitor = true; enable = false; request = false }
 
 -- the word of the status register; bits other than 7 and 6 read as 0
 unfoldable pub clock_word : LineClock → ℕ
@@ -48,8 +54,28 @@ unfoldable pub clock_after_write : ℕ → LineClock → LineClock
 clock_after_write word k =
     let monitor = k.monitor && bit_of word 0o200 in
     let enable = bit_of word 0o100 in
-    record { monitor = monitor; enable = enable; request = request_after_write monitor enable k }
+    record k { monitor = monitor; enable = enable; request = request_after_write monitor enable k }
 
 -- the processor serves the interrupt
 unfoldable pub clock_after_service : LineClock → LineClock
 clock_after_service k = record k { request = false }
+
+-- THE PERIOD
+
+-- the turn of the next tick, and none for period 0
+abbrev pub next_tick : ℕ → ℕ → Option ℕ
+next_tick turn period = if period == 0 then None else Some (turn + period)
+
+-- the operator sets a period when so many turns are done, from which the count of turns starts anew
+unfoldable pub clock_after_period : ℕ → ℕ → LineClock → LineClock
+clock_after_period turn period k = record k { period = period; due = next_tick turn period }
+
+-- whether a turn is a due turn
+unfoldable pub is_due : ℕ → Option ℕ → Bool
+is_due turn None = false
+is_due turn (Some due) = due == turn
+
+-- what the clock does in a turn: in its due turn the line ticks, and is due again a period later
+unfoldable pub clock_after_turn : ℕ → LineClock → LineClock
+clock_after_turn turn k =
+    if is_due turn k.due then record (clock_after_tick k) { due = next_tick turn k.period } else k

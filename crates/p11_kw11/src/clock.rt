@@ -1,5 +1,5 @@
 ghost use Rattle.std.specs.Prelude.{◌≡◌, ◌≤◌, ◌<◌, ◌^◌, ◌&&◌, ◌||◌, not};
-ghost use Rattle.p11_kw11.specs.LineClock.{bit_of, clock_after_init, clock_after_service, clock_after_tick, clock_after_write, clock_word, flag, new_clock};
+ghost use Rattle.p11_kw11.specs.LineClock.{bit_of, clock_after_init, clock_after_period, clock_after_service, clock_after_tick, clock_after_turn, clock_after_write, clock_word, flag, is_due, new_clock, next_tick};
 
 use std::marker::Model;
 
@@ -10,12 +10,17 @@ const MONITOR: u32 = 7;
 const ENABLE: u32 = 6;
 
 /// A KW11-L line clock. Its one register, the status register, shows the monitor bit in bit 7 and the interrupt enable
-/// in bit 6. It interrupts at level 6 through vector 100 (octal).
+/// in bit 6. It interrupts at level 6 through vector 100 (octal). The line ticks when it is told to, and by itself after
+/// each period, where one is set.
 #[derive(Debug, Drop)]
 pub struct Kw11 {
     monitor: bool,
     enable: bool,
     request: bool,
+    /// From one tick to the next there are so many turns, and with 0 the line doesn't tick by itself.
+    period: u32,
+    /// The turn in which the line next ticks by itself.
+    due: Option<u64>,
 }
 
 impl Model for Kw11 {
@@ -23,7 +28,13 @@ impl Model for Kw11 {
 
     ghost Value = { LineClock };
 
-    ghost view = { λ k. record { monitor = k.monitor; enable = k.enable; request = k.request } };
+    ghost view = { λ k. record {
+      monitor = k.monitor;
+      enable = k.enable;
+      request = k.request;
+      period = k.period;
+      due = k.due;
+    } };
 }
 
 /// The flag as a bit of this weight.
@@ -49,8 +60,30 @@ fn requests(requested: bool, was_enabled: bool, monitor: bool, enable: bool) -> 
     enable && (requested || monitor && !was_enabled)
 }
 
+/// The turn of the tick that follows by itself on this turn, and none for period 0.
+fn next_tick(turn: u64, period: u32) -> Option<u64>
+    requires { turn ≤ 2 ^ 62 }
+    ensures { result ≡ next_tick turn period }
+{
+    if period == 0 {
+        return None;
+    }
+    Some(turn + u64::from(period))
+}
+
+/// Whether this turn is the due turn.
+#[tactic(auto, unfolding(crate::specs::LineClock::is_due))]
+fn is_due(turn: u64, due: Option<u64>) -> bool
+    ensures { result ≡ is_due turn due }
+{
+    match due {
+        Some(due) => due == turn,
+        None => false,
+    }
+}
+
 impl Kw11 {
-    /// A new clock: monitor set, interrupts disabled.
+    /// A new clock: monitor set, interrupts disabled. The line doesn't tick by itself.
     #[tactic(auto, unfolding(crate::specs::LineClock::new_clock))]
     pub fn new() -> Self
         ensures { result ≡ new_clock }
@@ -59,6 +92,8 @@ impl Kw11 {
             monitor: true,
             enable: false,
             request: false,
+            period: 0,
+            due: None,
         }
     }
 
@@ -105,11 +140,50 @@ impl Kw11 {
         self.request = false;
     }
 
-    /// INIT on the bus: as a new clock.
-    #[tactic(auto, unfolding(crate::specs::LineClock::clock_after_init))]
+    /// INIT on the bus: monitor set, interrupts disabled. The period and the due turn stay.
+    #[tactic(auto, unfolding(crate::specs::LineClock::clock_after_init, crate::specs::LineClock::clock_after_service))]
     pub fn init(&mut self)
         ensures { self.new ≡ clock_after_init self.old }
     {
-        *self = Kw11::new();
+        self.monitor = true;
+        self.enable = false;
+        self.ack();
+    }
+
+    /// The operator sets the period when so many turns are done: the line next ticks by itself a period later, and with
+    /// period 0 no more.
+    #[tactic(auto, unfolding(crate::specs::LineClock::clock_after_period))]
+    pub fn set_period(&mut self, turn: u64, period: u32)
+        requires { turn ≤ 2 ^ 62 }
+        ensures { self.new ≡ clock_after_period turn period self.old }
+    {
+        self.period = period;
+        self.due = next_tick(turn, period);
+    }
+
+    /// What the clock does in this turn: the line ticks where it is due.
+    #[tactic(auto, unfolding(crate::specs::LineClock::clock_after_turn, crate::specs::LineClock::clock_after_tick))]
+    pub fn act(&mut self, turn: u64)
+        requires { turn ≤ 2 ^ 62 }
+        ensures { self.new ≡ clock_after_turn turn self.old }
+    {
+        if is_due(turn, self.due) {
+            self.tick();
+            self.due = next_tick(turn, self.period);
+        }
+    }
+
+    /// From one tick to the next there are so many turns, and with 0 the line doesn't tick by itself.
+    pub fn period(&self) -> u32
+        ensures { result ≡ self.now.period }
+    {
+        self.period
+    }
+
+    /// The turn in which the line next ticks by itself.
+    pub fn due(&self) -> Option<u64>
+        ensures { result ≡ self.now.due }
+    {
+        self.due
     }
 }

@@ -6,8 +6,8 @@ use Rattle.std.proofs.lemmas.Bool.{not-true, and_parts, ltb-true}
 use Rattle.std.proofs.lemmas.Bool.Decides.{nat_tests}
 use Rattle.std.proofs.lemmas.List.Sums.{AllPass-from_list_all}
 use Rattle.p11_lines.specs.declared.line.Line.{Line}
-use Rattle.p11_lines.specs.declared.line.Line.TheVariants.{Mount, Unmount, Save, Changed, Load, Examine, Deposit, Start, Key, Tick, Switches, Set, Step, Continue, Regs, Device, Flush}
-use Rattle.p11_lines.specs.Grammar.{is_blank, words_of, address_from, word_from, all_words_from, examine_from, deposit_from, start_from, key_from, plain_from, switches_from, set_from, turns_from, line_from_words, line_from, is_graphic, is_name, name_from, access_text, access_from, mount_from, save_from, load_from, drive_from, disk_line_from}
+use Rattle.p11_lines.specs.declared.line.Line.TheVariants.{Mount, Unmount, Save, Changed, Load, Examine, Deposit, Start, Key, Tick, Clock, Switches, Set, Step, Continue, Regs, Device, Flush}
+use Rattle.p11_lines.specs.Grammar.{is_blank, words_of, address_from, word_from, all_words_from, examine_from, deposit_from, start_from, key_from, plain_from, period_from, clock_from, switches_from, set_from, turns_from, line_from_words, line_from, is_graphic, is_name, name_from, access_text, access_from, mount_from, save_from, load_from, drive_from, disk_line_from}
 use Rattle.p11_lines.specs.LineText.{octal, line_text, FitsCount, FitsGrammar}
 use Rattle.p11_lines.specs.Escapes.{escaped}
 use Rattle.p11_lines.proofs.Escapes.{bytes_from-escaped, graphs_of-escaped, some-escaped}
@@ -27,6 +27,9 @@ address_from-octal address small = number_from-Writes 8 6 262143 address (octal 
 
 word_from-octal : (word : ℕ) → word ≤ 65535 → word_from (octal word) ≡ Some word
 word_from-octal word small = number_from-Writes 8 6 65535 word (octal word) (octal-Writes word (omega arith)) small
+
+period_from-decimal : (period : ℕ) → period ≤ 999999999 → period_from (decimal period) ≡ Some period
+period_from-decimal period fits = number_from-Writes 10 9 999999999 period (decimal period) (decimal-Writes period fits) fits
 
 all_words_from-octal : (words : List ℕ) → All (λ word. word ≤ 65535) words → all_words_from (map octal words) ≡ Some words
 unfolding all_words_from
@@ -119,6 +122,11 @@ words_of-continue turns fits =
     words_of-word (codes "continue") 32 (decimal turns) (graphs_from-test (codes "continue") refl) (omega arith) refl
     ∙ ap (λ (ws : List (List ℕ)). codes "continue" ∷ ws) (words_of-decimal turns fits.1)
 
+words_of-clock : (period : ℕ) → period ≤ 999999999 → words_of (codes "clock " ++ decimal period) ≡ codes "clock" ∷ decimal period ∷ []
+words_of-clock period fits =
+    words_of-word (codes "clock") 32 (decimal period) (graphs_from-test (codes "clock") refl) (omega arith) refl
+    ∙ ap (λ (ws : List (List ℕ)). codes "clock" ∷ ws) (words_of-decimal period fits)
+
 words_of-switches : (word : ℕ) → word ≤ 65535 → words_of (codes "switches " ++ octal word) ≡ codes "switches" ∷ octal word ∷ []
 words_of-switches word small =
     words_of-word (codes "switches") 32 (octal word) (graphs_from-test (codes "switches") refl) (omega arith) refl
@@ -206,6 +214,10 @@ line_from_words-continue : {A : Type 0} (turns : ℕ) → FitsCount turns → li
 unfolding line_from_words turns_from
 line_from_words-continue turns fits = rw (count_from-decimal turns fits) refl
 
+line_from_words-clock : {A : Type 0} (period : ℕ) → period ≤ 999999999 → line_from_words {A = A} (codes "clock" ∷ decimal period ∷ []) ≡ Some (Clock period)
+unfolding line_from_words clock_from
+line_from_words-clock period fits = rw (period_from-decimal period fits) refl
+
 line_from_words-switches : {A : Type 0} (word : ℕ) → word ≤ 65535 → line_from_words {A = A} (codes "switches" ∷ octal word ∷ []) ≡ Some (Switches word)
 unfolding line_from_words switches_from
 line_from_words-switches word small = rw (word_from-octal word small) refl
@@ -269,6 +281,7 @@ line_from-line_text (Step turns) fits short = line_from-words _ _ _ short (words
 line_from-line_text Regs fits short = line_from-words _ _ _ short words_of-regs line_from_words-regs
 line_from-line_text (Key text) fits short = line_from-words _ _ _ short (words_of-key text fits.0) (line_from_words-key text fits.1)
 line_from-line_text Tick fits short = line_from-words _ _ _ short words_of-tick line_from_words-tick
+line_from-line_text (Clock period) fits short = line_from-words _ _ _ short (words_of-clock period fits) (line_from_words-clock period fits)
 line_from-line_text (Switches word) fits short = line_from-words _ _ _ short (words_of-switches word fits) (line_from_words-switches word fits)
 line_from-line_text (Continue turns) fits short = line_from-words _ _ _ short (words_of-continue turns fits) (line_from_words-continue turns fits)
 line_from-line_text Device fits short = line_from-words _ _ _ short words_of-device line_from_words-device

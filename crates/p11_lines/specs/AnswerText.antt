@@ -78,14 +78,16 @@ turn_text r = codes "TURN " ++ decimal r.turns ++ codes " " ++ mark_text r.mark 
 abbrev pub registers_text : Registers → List ℕ
 registers_text r = general_text r ++ pointers_text r ++ turn_text r
 
--- `KW11 o`: the line clock's status register
-unfoldable pub clock_text : ℕ → List ℕ
-clock_text word = codes "KW11 " ++ six_octals word ++ codes "\n"
-
 -- a due turn, or `-` where there is none
 abbrev pub due_text : Option ℕ → List ℕ
 due_text None = codes "-"
 due_text (Some turn) = decimal turn
+
+-- `KW11 o every d due d`: the line clock's status register, its period and its due turn
+unfoldable pub clock_text : ℕ → ℕ → Option ℕ → List ℕ
+clock_text status period due =
+    codes "KW11 " ++ six_octals status ++ codes " every " ++ decimal period ++ codes " due " ++ due_text due
+    ++ codes "\n"
 
 -- `DL11 o o o`: RCSR, RBUF and XCSR
 unfoldable pub line_words_text : LineRegisters → List ℕ
@@ -142,7 +144,7 @@ requests_text r =
 
 abbrev pub devices_text : Devices → List ℕ
 devices_text d =
-    clock_text d.clock ++ (line_words_text d.line ++ line_waits_text d.line) ++ disk_text d.disk
+    clock_text d.clock.status d.clock.period d.clock.due ++ (line_words_text d.line ++ line_waits_text d.line) ++ disk_text d.disk
     ++ drives_text 0 d.drives ++ management_text d.management ++ requests_text d.requests
 
 -- ` d` for each number

@@ -7,7 +7,7 @@ use Rattle.std.specs.Char.{digit_value}
 use Rattle.std.specs.Str.Parse.{digits_value}
 use Rattle.p11_lines.specs.declared.line.Line.{Line}
 use Rattle.p11_lines.specs.declared.line.Line.TheVariants.{Mount, Unmount, Save, Changed, Load, Examine, Deposit, Start, Key}
-use Rattle.p11_lines.specs.declared.line.Line.TheVariants.{Tick, Switches, Set, Step, Continue, Regs, Device, Flush}
+use Rattle.p11_lines.specs.declared.line.Line.TheVariants.{Tick, Clock, Switches, Set, Step, Continue, Regs, Device, Flush}
 use Rattle.p11_lines.specs.Escapes.{is_plain}
 
 -- the steps of a reading, of which each may find that there is no line
@@ -52,6 +52,10 @@ unfoldable pub count_from : List ℕ → Option ℕ
 count_from digits = do
   count ← number_from 10 9 999999999 digits
   if nat_lt 0 count then Some count else None
+
+-- a period: one to nine decimal digits
+abbrev pub period_from : List ℕ → Option ℕ
+period_from digits = number_from 10 9 999999999 digits
 
 -- one word of the machine for each word of the line
 unfoldable pub all_words_from : List (List ℕ) → Option (List ℕ)
@@ -191,6 +195,14 @@ unfoldable pub plain_from : {A : Type 0} → Line A → List (List ℕ) → Opti
 plain_from line [] = Some line
 plain_from line (more ∷ rest) = None
 
+-- `clock P`
+unfoldable pub clock_from : {A : Type 0} → List (List ℕ) → Option (Line A)
+clock_from [] = None
+clock_from (p ∷ []) = do
+  period ← period_from p
+  Some (Clock period)
+clock_from (p ∷ more ∷ rest) = None
+
 -- `switches W`
 unfoldable pub switches_from : {A : Type 0} → List (List ℕ) → Option (Line A)
 switches_from [] = None
@@ -234,6 +246,7 @@ line_from_words (name ∷ args) =
     if bytes_eq name (codes "start") then start_from args else (
     if bytes_eq name (codes "key") then key_from args else (
     if bytes_eq name (codes "tick") then plain_from Tick args else (
+    if bytes_eq name (codes "clock") then clock_from args else (
     if bytes_eq name (codes "switches") then switches_from args else (
     if bytes_eq name (codes "set") then set_from args else (
     if bytes_eq name (codes "step") then turns_from (λ turns. Step turns) args else (
@@ -241,7 +254,7 @@ line_from_words (name ∷ args) =
     if bytes_eq name (codes "regs") then plain_from Regs args else (
     if bytes_eq name (codes "device") then plain_from Device args else (
     if bytes_eq name (codes "flush") then plain_from Flush args else (
-    if bytes_eq name (codes "load") then load_from args else disk_line_from name args))))))))))))
+    if bytes_eq name (codes "load") then load_from args else disk_line_from name args)))))))))))))
 
 -- the line that these bytes are, which have no end of line with them
 unfoldable pub line_from : {A : Type 0} → List ℕ → Option (Line A)

@@ -4,7 +4,7 @@ use Rattle.std.specs.List.{flat_map}
 use Rattle.std.specs.Fmt.{digits, decimal}
 use Rattle.p11_lines.specs.declared.line.Line.{Line}
 use Rattle.p11_lines.specs.declared.line.Line.TheVariants.{Mount, Unmount, Save, Changed, Load, Examine, Deposit, Start, Key}
-use Rattle.p11_lines.specs.declared.line.Line.TheVariants.{Tick, Switches, Set, Step, Continue, Regs, Device, Flush}
+use Rattle.p11_lines.specs.declared.line.Line.TheVariants.{Tick, Clock, Switches, Set, Step, Continue, Regs, Device, Flush}
 use Rattle.p11_lines.specs.Escapes.{escaped}
 use Rattle.p11_lines.specs.Grammar.{is_name, access_text, line_from}
 
@@ -23,6 +23,7 @@ line_text (Deposit address words) = codes "deposit " ++ octal address ++ flat_ma
 line_text (Start address) = codes "start " ++ octal address
 line_text (Key text) = codes "key " ++ escaped text
 line_text Tick = codes "tick"
+line_text (Clock period) = codes "clock " ++ decimal period
 line_text (Switches word) = codes "switches " ++ octal word
 line_text (Set register value) = codes "set " ++ octal register ++ 32 ∷ octal value
 line_text (Step turns) = codes "step " ++ decimal turns
@@ -46,6 +47,7 @@ FitsGrammar (Examine address count) = (address ≤ 0o777777) × FitsCount count
 FitsGrammar (Deposit address words) = (address ≤ 0o777777) × (0 < length words) × All (λ word. word ≤ 0o177777) words
 FitsGrammar (Start address) = address ≤ 0o177777
 FitsGrammar (Key text) = (0 < length text) × All (λ byte. byte ≤ 255) text
+FitsGrammar (Clock period) = period ≤ 999999999
 FitsGrammar (Switches word) = word ≤ 0o177777
 FitsGrammar (Set register value) = (register ≤ 0o177777) × (value ≤ 0o177777)
 FitsGrammar (Step turns) = FitsCount turns

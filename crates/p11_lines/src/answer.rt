@@ -47,6 +47,17 @@ pub struct Registers {
     pub mark: Mark,
 }
 
+/// What shows of the line clock.
+#[derive(Clone, Copy, Debug, PartialEq, Eq)]
+pub struct ClockShown {
+    /// The status register.
+    pub status: u16,
+    /// After so many turns the line ticks by itself, again and again; with 0 it doesn't.
+    pub period: u32,
+    /// The turn in which it next ticks by itself.
+    pub due: Option<u64>,
+}
+
 /// What shows of the console line. A due turn is one in which the section acts if nothing else happens.
 #[derive(Clone, Copy, Debug, PartialEq, Eq)]
 pub struct LineRegisters {
@@ -112,14 +123,14 @@ pub struct Requests {
 /// What shows of the devices, without side effect.
 #[derive(Clone, Copy, Debug, PartialEq, Eq)]
 pub struct Devices {
-    /// The status register of the line clock.
-    pub clock: u16,
+    /// The line clock.
+    pub clock: ClockShown,
     /// The console line.
     pub line: LineRegisters,
     /// The disk controller.
     pub disk: DiskRegisters,
     /// Its drives by number, with a pack or empty.
-    pub drives: [Option<DriveShown>; 2],
+    pub drives: [Option<DriveShown>; 8],
     /// Memory management.
     pub management: ManagementRegisters,
     /// The requests.

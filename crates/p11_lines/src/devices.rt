@@ -4,20 +4,12 @@ ghost use Rattle.p11_lines.specs.AnswerText.{clock_text, due_text, line_words_te
 ghost use Rattle.p11_lines.specs.AnswerText.{request_text, requests_text, devices_text};
 ghost use Rattle.p11_lines.specs.Written.{Puts};
 
-use crate::answer::{Devices, LineRegisters, ManagementRegisters, Requests};
+use crate::answer::{ClockShown, Devices, LineRegisters, ManagementRegisters, Requests};
 use crate::output::{Broken, Table, octal, put_all};
 use crate::packs::{put_disk, put_drives};
 use arrayvec::ArrayVec;
 use itoa::Buffer;
 use std::io::Write;
-
-#[tactic(auto, unfolding(crate::specs::AnswerText::clock_text))]
-fn put_clock<W: Write>(writer: &mut W, table: &mut Table, word: u16) -> Result<(), Broken>
-    ensures { Puts (W.contents writer.old) table.old.items (clock_text word)
-        (W.contents writer.new) table.new.items result }
-{
-    put_all(writer, table, &[b"KW11 ", &octal(u32::from(word)), b"\n"])
-}
 
 /// A due turn, or a dash.
 pub(crate) fn due_name(due: Option<u64>) -> ArrayVec<u8, 20>
@@ -31,6 +23,30 @@ pub(crate) fn due_name(due: Option<u64>) -> ArrayVec<u8, 20>
     let mut buffer = Buffer::new();
     let _ = name.try_extend_from_slice(buffer.format(turn).as_bytes());
     name
+}
+
+#[tactic(auto, unfolding(crate::specs::AnswerText::clock_text))]
+fn put_clock<W: Write>(writer: &mut W, table: &mut Table, clock: &ClockShown) -> Result<(), Broken>
+    ensures { Puts (W.contents writer.old) table.old.items (clock_text clock.now.status clock.now.period clock.now.due)
+        (W.contents writer.new) table.new.items result }
+{
+    let status = octal(u32::from(clock.status));
+    let mut buffer = Buffer::new();
+    let period = buffer.format(clock.period).as_bytes();
+    let due = due_name(clock.due);
+    put_all(
+        writer,
+        table,
+        &[
+            b"KW11 ",
+            &status,
+            b" every ",
+            period,
+            b" due ",
+            due.as_slice(),
+            b"\n",
+        ],
+    )
 }
 
 #[tactic(auto, unfolding(crate::specs::AnswerText::line_words_text))]
@@ -143,7 +159,7 @@ pub(crate) fn put_devices<W: Write>(
     ensures { Puts (W.contents writer.old) table.old.items (devices_text devices.now)
         (W.contents writer.new) table.new.items result }
 {
-    put_clock(writer, table, devices.clock)?;
+    put_clock(writer, table, &devices.clock)?;
     put_line(writer, table, &devices.line)?;
     put_disk(writer, table, &devices.disk)?;
     put_drives(writer, table, &devices.drives)?;

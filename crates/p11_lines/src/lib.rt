@@ -18,8 +18,8 @@ mod text;
 mod words;
 
 pub use answer::{
-    Answer, Devices, DiskRegisters, DriveShown, LineRegisters, ManagementRegisters, Mark,
-    Registers, Requests, StopReason,
+    Answer, ClockShown, Devices, DiskRegisters, DriveShown, LineRegisters, ManagementRegisters,
+    Mark, Registers, Requests, StopReason,
 };
 pub use bytes::Bytes;
 pub use fault::{Fault, NoMemory};

@@ -4,7 +4,7 @@ ghost use Rattle.std.specs.List.{position};
 ghost use Rattle.std.specs.Str.Parse.{digits_value};
 ghost use Rattle.p11_lines.specs.Grammar.{is_blank, words_of, all_digits, number_from, address_from, word_from};
 ghost use Rattle.p11_lines.specs.Grammar.{count_from, all_words_from, examine_from, deposit_from, start_from};
-ghost use Rattle.p11_lines.specs.Grammar.{plain_from, switches_from, set_from, turns_from, line_from};
+ghost use Rattle.p11_lines.specs.Grammar.{clock_from, plain_from, period_from, switches_from, set_from, turns_from, line_from};
 ghost use Rattle.p11_lines.specs.Reading.{Reads, GivesList};
 
 use crate::disks::disk_line;
@@ -115,6 +115,13 @@ fn word(digits: &[u8]) -> Option<u16>
     u16::try_from(value).ok()
 }
 
+/// A period, which may be 0.
+fn period(digits: &[u8]) -> Option<u32>
+    ensures { result ≡ period_from digits.now }
+{
+    number(10, 9, 999_999_999, digits)
+}
+
 /// A count, which is not 0.
 #[tactic(auto, unfolding(crate::specs::Grammar::count_from))]
 fn count(digits: &[u8]) -> Option<u32>
@@ -167,6 +174,18 @@ fn set<A: Allocator>(args: &[u8]) -> Option<Line<A>>
         return None;
     }
     Some(Line::Set { register, value })
+}
+
+#[tactic(auto, unfolding(crate::specs::Grammar::clock_from))]
+fn clock<A: Allocator>(args: &[u8]) -> Option<Line<A>>
+    ensures { result ≡ clock_from (words_of args.now) }
+{
+    let (first, args) = next_word(args)?;
+    let period = period(first)?;
+    if next_word(args).is_some() {
+        return None;
+    }
+    Some(Line::Clock { period })
 }
 
 #[tactic(auto, unfolding(crate::specs::Grammar::switches_from))]
@@ -299,6 +318,9 @@ pub fn parse_line<A: Allocator>(alloc: A, line: &[u8]) -> Result<Line<A>, Fault>
     }
     if name == b"tick".as_slice() {
         return plain(Line::Tick, args).ok_or(Fault::BadLine);
+    }
+    if name == b"clock".as_slice() {
+        return clock(args).ok_or(Fault::BadLine);
     }
     if name == b"switches".as_slice() {
         return switches(args).ok_or(Fault::BadLine);

@@ -110,6 +110,7 @@ pub fn line_of<A: Allocator>(alloc: A, line: &Line<A>) -> Result<Vec<u8, A>, NoM
         Line::Start { address } => format!(in alloc; "start {address:o}")?,
         Line::Set { register, value } => format!(in alloc; "set {register:o} {value:o}")?,
         Line::Tick => format!(in alloc; "tick")?,
+        Line::Clock { period } => format!(in alloc; "clock {period}")?,
         Line::Switches { word } => format!(in alloc; "switches {word:o}")?,
         Line::Step { turns } => format!(in alloc; "step {turns}")?,
         Line::Continue { turns } => format!(in alloc; "continue {turns}")?,

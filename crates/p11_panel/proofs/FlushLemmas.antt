@@ -4,9 +4,9 @@ use Rattle.std.proofs.lemmas.List.Elements.{All-head, All-tail}
 use Rattle.p11_cpu.specs.State.{State}
 use Rattle.p11_cpu.specs.Operator.{new_machine}
 use Rattle.p11_panel.specs.Play.{Plays}
-use Rattle.p11_panel.specs.Laws.{HadMemory, RunsHaveOneOutcome, TapesHaveOneMeaning}
+use Rattle.p11_panel.specs.Laws.{HadMemory, RunsHaveOneOutcome}
 use Rattle.p11_panel.specs.FlushLaws.{FlushShowsNothing, LinesShowNothing}
-use Rattle.p11_panel.proofs.OutcomeLemmas.{acts_once, plays_once}
+use Rattle.p11_panel.proofs.OutcomeLemmas.{TapesHaveOneMeaning, acts_once, plays_once}
 
 pub flush_out : {A : Type 0} → RunsHaveOneOutcome → TapesHaveOneMeaning → FlushShowsNothing A
 unfolding Plays

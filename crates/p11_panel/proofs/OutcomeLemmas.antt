@@ -3,9 +3,11 @@ use Rattle.std.proofs.Common.{◌≡◌, ℕ, Bool, true, false, Option, Some, N
 use Rattle.std.proofs.lemmas.List.Elements.{All-head, All-tail}
 use Rattle.p11_lines.specs.declared.answer.Answer.{Answer}
 use Rattle.p11_lines.specs.declared.answer.Answer.TheVariants as answers
+use Rattle.p11_tape.specs.Tape.{Means, HasMeaning}
+use Rattle.p11_tape.specs.Fault.{HasSomeFault}
 use Rattle.p11_cpu.specs.State.{State}
 use Rattle.p11_cpu.specs.Operator.{console_register, start_of, set_reg_of}
-use Rattle.p11_cpu.specs.Console.{tick_of, set_switches_of, take_typed_of}
+use Rattle.p11_cpu.specs.OperatorDevices.{tick_of, set_period_of, set_switches_of, take_typed_of}
 use Rattle.p11_panel.specs.declared.command.Command.TheVariants as commands
 use Rattle.p11_panel.specs.Commands.{Examines, Stops, examine_fault, deposit_fault, start_fault, key_fault, step_fault}
 use Rattle.p11_panel.specs.Disks.{FindsMemory, mount_fault}
@@ -14,14 +16,20 @@ use Rattle.p11_panel.specs.Shown.{registers_of, shown_devices}
 use Rattle.p11_rk11.specs.State.{drive_of, drive_count, contents_of, is_busy}
 use Rattle.std.specs.Bool.{MatchBool}
 use Rattle.std.specs.Prelude.{nat_le}
-use Rattle.p11_cpu.specs.Console.{mount_of, unmount_of}
+use Rattle.p11_cpu.specs.OperatorDevices.{mount_of, unmount_of}
 use Rattle.p11_overlay.specs.Drive.{image_of}
 use Rattle.p11_panel.specs.Runs.{stops_idling}
 use Rattle.p11_panel.specs.Keys.{pressed}
 use Rattle.p11_panel.specs.Ranges.{deposited}
 use Rattle.p11_panel.specs.Play.{Plays}
 use Rattle.p11_panel.specs.Tapes.{Loads, Places, all_fit, loaded}
-use Rattle.p11_panel.specs.Laws.{TapesHaveOneMeaning, HadMemory, RunsHaveOneOutcome, CommandsHaveOneOutcome, ListsHaveOneOutcome}
+use Rattle.p11_panel.specs.Laws.{HadMemory, RunsHaveOneOutcome, CommandsHaveOneOutcome, ListsHaveOneOutcome}
+
+-- bytes have one meaning as a tape, and no fault beside it, as laws of the tape's crate say
+abbrev pub TapesHaveOneMeaning : Type 0
+TapesHaveOneMeaning =
+    ((tape : List ℕ) (p q : List (ℕ × ℕ)) (s t : Option ℕ) → Means tape p s → Means tape q t → (p ≡ q) × (s ≡ t))
+    × ((tape : List ℕ) → HasMeaning tape → HasSomeFault tape → ⊥)
 
 -- what nothing leaves open is the same both times
 done_once : {A : Type 0} (done answer other : Answer A) (after s' t' : State) → IsDone done after answer s' → IsDone done after other t' → (answer ≡ other) × (s' ≡ t')
@@ -104,6 +112,7 @@ acts_once {A} law tapes s (commands.Key text) answer other s' t' h k m l =
     either_once (key_fault text s) _ _ _ _ _ (done_once answers.Done answer other (pressed text s) s' t') (λ fault. done_once (answers.Refused fault) answer other s s' t') h k
 acts_once law tapes s commands.Flush answer other s' t' h k m l = done_once answers.Done answer other s s' t' h k
 acts_once law tapes s commands.Tick answer other s' t' h k m l = done_once answers.Done answer other (tick_of s) s' t' h k
+acts_once law tapes s (commands.Clock period) answer other s' t' h k m l = done_once answers.Done answer other (set_period_of period s) s' t' h k
 acts_once law tapes s (commands.Switches word) answer other s' t' h k m l = done_once answers.Done answer other (set_switches_of word s) s' t' h k
 acts_once {A} law tapes s (commands.Continue n) answer other s' t' h k m l =
     either_once (step_fault n s) _ _ _ _ _ (stops_once law true n s answer other s' t' m l) (λ fault. done_once (answers.Refused fault) answer other s s' t') h k

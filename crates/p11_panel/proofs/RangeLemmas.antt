@@ -4,7 +4,7 @@ use Rattle.std.proofs.lemmas.Bool.{cases_lt}
 use Rattle.std.proofs.lemmas.List.{take_more}
 use Rattle.p11_cpu.specs.State.{State}
 use Rattle.p11_cpu.specs.Operator.{answers_of, examine_of, deposit_of}
-use Rattle.p11_cpu.specs.Console.{key_of}
+use Rattle.p11_cpu.specs.OperatorDevices.{key_of}
 use Rattle.p11_panel.specs.Keys.{pressed}
 use Rattle.p11_panel.specs.Ranges.{answers_at, all_answer, reads_at, deposited}
 

@@ -8,7 +8,7 @@ use Rattle.p11_lines.specs.declared.answer.Answer.TheVariants as answers
 use Rattle.p11_lines.specs.declared.answer.StopReason.{StopReason}
 use Rattle.p11_cpu.specs.State.{State}
 use Rattle.p11_cpu.specs.Operator.{examine_of, start_of, console_register, set_reg_of}
-use Rattle.p11_cpu.specs.Console.{room_of, tick_of, set_switches_of, take_typed_of}
+use Rattle.p11_cpu.specs.OperatorDevices.{room_of, tick_of, set_period_of, set_switches_of, take_typed_of}
 use Rattle.p11_panel.specs.declared.command.Command.{Command}
 use Rattle.p11_panel.specs.declared.command.Command.TheVariants as commands
 use Rattle.p11_panel.specs.Ranges.{all_answer, reads_at, deposited}
@@ -102,6 +102,7 @@ Acts s (commands.Key text) answer s' =
     MatchOption (key_fault text s) (IsDone answers.Done (pressed text s) answer s')
     (λ fault. IsRefused fault s answer s')
 Acts s commands.Tick answer s' = IsDone answers.Done (tick_of s) answer s'
+Acts s (commands.Clock period) answer s' = IsDone answers.Done (set_period_of period s) answer s'
 Acts s (commands.Switches word) answer s' = IsDone answers.Done (set_switches_of word s) answer s'
 Acts s (commands.Set number word) answer s' = Sets number word s answer s'
 Acts s (commands.Step n) answer s' =

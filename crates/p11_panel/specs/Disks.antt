@@ -8,7 +8,7 @@ use Rattle.p11_lines.specs.declared.fault.Fault.TheVariants.{NoDrive, DriveEmpty
 use Rattle.p11_lines.specs.declared.answer.Answer.{Answer}
 use Rattle.p11_lines.specs.declared.answer.Answer.TheVariants as answers
 use Rattle.p11_cpu.specs.State.{State}
-use Rattle.p11_cpu.specs.Console.{mount_of, unmount_of}
+use Rattle.p11_cpu.specs.OperatorDevices.{mount_of, unmount_of}
 use Rattle.p11_panel.specs.Refusals.{IsRefused, IsDone}
 
 -- what finds memory is done, or refused for the want of it

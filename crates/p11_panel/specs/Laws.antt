@@ -1,12 +1,10 @@
 -- Laws of the definitions: what is one, where memory refused and stopped nothing.
-use Rattle.std.specs.Prelude.{◌≡◌, ◌≢◌, ℕ, Bool, List, Option, All}
+use Rattle.std.specs.Prelude.{◌≡◌, ◌≢◌, ℕ, Bool, List, All}
 use Rattle.p11_lines.specs.declared.answer.Answer.{Answer}
 use Rattle.p11_lines.specs.declared.answer.Answer.TheVariants as answers
 use Rattle.p11_lines.specs.declared.answer.StopReason.{StopReason}
 use Rattle.p11_lines.specs.declared.answer.StopReason.TheVariants.{Memory}
 use Rattle.p11_lines.specs.declared.fault.Fault.TheVariants.{NoMemory}
-use Rattle.p11_tape.specs.Tape.{Means, HasMeaning}
-use Rattle.p11_tape.specs.Fault.{HasSomeFault}
 use Rattle.p11_cpu.specs.State.{State}
 use Rattle.p11_panel.specs.declared.command.Command.{Command}
 use Rattle.p11_panel.specs.Commands.{Acts}
@@ -20,12 +18,6 @@ RunsHaveOneOutcome =
     (idles : State → Bool) (n : ℕ) (s : State) (k l : ℕ) (reason other : StopReason) (s' t' : State)
     → IsRun idles n s k reason s' → IsRun idles n s l other t' → reason ≢ Memory → other ≢ Memory
     → (k ≡ l) × (reason ≡ other) × (s' ≡ t')
-
--- bytes have one meaning as a tape, and no fault beside it
-abbrev pub TapesHaveOneMeaning : Type 0
-TapesHaveOneMeaning =
-    ((tape : List ℕ) (p q : List (ℕ × ℕ)) (s t : Option ℕ) → Means tape p s → Means tape q t → (p ≡ q) × (s ≡ t))
-    × ((tape : List ℕ) → HasMeaning tape → HasSomeFault tape → ⊥)
 
 -- memory neither refused the command nor stopped its run
 abbrev pub HadMemory : {A : Type 0} → Answer A → Type 0

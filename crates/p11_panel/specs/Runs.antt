@@ -6,7 +6,7 @@ use Rattle.p11_cpu.specs.declared.turn.Turn.{Turn}
 use Rattle.p11_cpu.specs.declared.turn.Turn.TheVariants.{Ran, Halted}
 use Rattle.p11_cpu.specs.State.{State}
 use Rattle.p11_cpu.specs.Prepared.{needs_memory}
-use Rattle.p11_cpu.specs.Console.{is_idle}
+use Rattle.p11_cpu.specs.OperatorDevices.{is_idle}
 use Rattle.p11_cpu.specs.Turns.{turn_of}
 
 -- the machine after so many turns

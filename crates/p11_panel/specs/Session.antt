@@ -53,7 +53,7 @@ fault_of errors.NoMemory = NoMemory
 abbrev pub OnFile : {A : Type 0} → List ℕ → (List ℕ → Command A) → SessionState → Answer A → SessionState → Type 0
 OnFile name command s answer s' =
     ((bytes : List ℕ) × Fetches s.store name bytes s'.store × Acts s.machine (command bytes) answer s'.machine)
-    ⊎ ((error : StoreError) × FailsToFetch s.store error s'.store
+    ⊎ ((error : StoreError) × FailsToFetch s.store name error s'.store
     × (answer ≡ answers.Refused (fault_of error)) × (s'.machine ≡ s.machine))
 
 -- what SAVE shows is put under a name
@@ -82,6 +82,7 @@ Obeys (lines.Deposit address words) s answer s' = IsCommand (commands.Deposit ad
 Obeys (lines.Start address) s answer s' = IsCommand (commands.Start address) s answer s'
 Obeys (lines.Key text) s answer s' = IsCommand (commands.Key text) s answer s'
 Obeys lines.Tick s answer s' = IsCommand commands.Tick s answer s'
+Obeys (lines.Clock period) s answer s' = IsCommand (commands.Clock period) s answer s'
 Obeys (lines.Switches word) s answer s' = IsCommand (commands.Switches word) s answer s'
 Obeys (lines.Set register value) s answer s' = IsCommand (commands.Set register value) s answer s'
 Obeys (lines.Step turns) s answer s' = IsCommand (commands.Step turns) s answer s'

@@ -1,5 +1,7 @@
 -- What the operator is shown of the processor and of the devices, without effect.
-use Rattle.std.specs.Prelude.{List, slice_index_or, [], ◌∷◌, Option, None, Some, if◌then◌else◌}
+use Rattle.std.specs.Prelude.{List, map, slice_index_or, Option, None, Some, if◌then◌else◌}
+use Rattle.std.specs.List.{range_with_len}
+use Rattle.p11_lines.specs.declared.answer.ClockShown.{ClockShown}
 use Rattle.p11_lines.specs.declared.answer.Devices.{Devices}
 use Rattle.p11_lines.specs.declared.answer.DiskRegisters.{DiskRegisters}
 use Rattle.p11_lines.specs.declared.answer.DriveShown.{DriveShown}
@@ -9,11 +11,12 @@ use Rattle.p11_lines.specs.declared.answer.Mark.TheVariants.{Ready, Waiting, Hal
 use Rattle.p11_lines.specs.declared.answer.Registers.{Registers}
 use Rattle.p11_lines.specs.declared.answer.Requests.{Requests}
 use Rattle.p11_psw.specs.Status.{status_word}
+use Rattle.p11_rk11.specs.State.{drive_count}
 use Rattle.p11_unibus.specs.declared.devices.BusDevices.{BusDevices}
 use Rattle.p11_unibus.specs.declared.devices.DiskRegisters as of_bus
 use Rattle.p11_unibus.specs.declared.devices.DriveShown as on_bus
 use Rattle.p11_cpu.specs.State.{State, Processor}
-use Rattle.p11_cpu.specs.Console.{machine_devices_of, status_0_of, status_2_of}
+use Rattle.p11_cpu.specs.OperatorDevices.{machine_devices_of, status_0_of, status_2_of}
 
 -- REGS: the processor's registers and status, the count of turns, and the mark
 abbrev pub mark_of : Processor → Mark
@@ -33,6 +36,9 @@ registers_of s =
     }
 
 -- DEVICE: the clock, the console line, the disk controller with its drives, memory management and the requests
+unfoldable pub shown_clock : BusDevices → ClockShown
+shown_clock d = record { status = d.clock; period = d.clock_period; due = d.clock_due }
+
 unfoldable pub shown_line : BusDevices → LineRegisters
 shown_line d =
     record {
@@ -62,7 +68,7 @@ shown_drive (Some d) =
     Some (record { protected = d.protected; cylinder = d.cylinder; changed = d.changed; due = d.due })
 
 unfoldable pub shown_drives : List (Option on_bus.DriveShown) → List (Option DriveShown)
-shown_drives drives = shown_drive (slice_index_or drives 0 None) ∷ shown_drive (slice_index_or drives 1 None) ∷ []
+shown_drives drives = map (λ n. shown_drive (slice_index_or drives n None)) (range_with_len 0 drive_count)
 
 unfoldable pub shown_requests : BusDevices → Requests
 shown_requests d =
@@ -77,7 +83,7 @@ unfoldable pub shown_devices : State → Devices
 shown_devices s =
     let d = machine_devices_of s in
     record {
-      clock = d.clock;
+      clock = shown_clock d;
       line = shown_line d;
       disk = shown_disk d.disk;
       drives = shown_drives d.drives;

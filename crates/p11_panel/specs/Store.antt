@@ -17,6 +17,15 @@ abbrev pub Has : Option (List ℕ → Option (List ℕ)) → List ℕ → List �
 Has None name bytes = ⊤
 Has (Some files) name bytes = files name ≡ Some bytes
 
+-- where its files are known, there is none under the name
+abbrev pub Lacks : Option (List ℕ → Option (List ℕ)) → List ℕ → Type 0
+Lacks None name = ⊤
+Lacks (Some files) name = files name ≡ None
+
+-- where its files are known, there is one under the name
+abbrev pub Holds : Option (List ℕ → Option (List ℕ)) → List ℕ → Type 0
+Holds files name = (bytes : List ℕ) × Has files name bytes
+
 -- where its files are known, they stay, but for the one of this name
 abbrev pub KeepsOthers : Option (List ℕ → Option (List ℕ)) → List ℕ → Option (List ℕ → Option (List ℕ)) → Type 0
 KeepsOthers None name new = ⊤
@@ -27,10 +36,11 @@ KeepsOthers (Some old) name (Some new) = (other : List ℕ) → other ≢ name �
 abbrev pub Fetches : StoreState → List ℕ → List ℕ → StoreState → Type 0
 Fetches s name bytes s' = Has s.files name bytes × (s' ≡ s)
 
--- A fetch that gives none is refused, which is counted, as where the name is missing, or it finds no memory.
-abbrev pub FailsToFetch : StoreState → StoreError → StoreState → Type 0
-FailsToFetch s Refused s' = s' ≡ refused s
-FailsToFetch s NoMemory s' = s' ≡ s
+-- A fetch that gives none is refused, which is counted, where the name is missing; or it finds no memory for what is
+-- under the name.
+abbrev pub FailsToFetch : StoreState → List ℕ → StoreError → StoreState → Type 0
+FailsToFetch s name Refused s' = Lacks s.files name × (s' ≡ refused s)
+FailsToFetch s name NoMemory s' = Holds s.files name × (s' ≡ s)
 
 -- A put leaves the bytes under the name, and the other files as they were.
 abbrev pub Puts : StoreState → List ℕ → List ℕ → StoreState → Type 0

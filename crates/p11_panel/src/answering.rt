@@ -130,6 +130,7 @@ fn obey<A: Allocator + Copy, S: Store>(
         Line::Start { address } => panel.act(alloc, &Command::Start { address }),
         Line::Key { text } => panel.act(alloc, &Command::Key { text }),
         Line::Tick => panel.act(alloc, &Command::Tick),
+        Line::Clock { period } => panel.act(alloc, &Command::Clock { period }),
         Line::Switches { word } => panel.act(alloc, &Command::Switches { word }),
         Line::Set { register, value } => panel.act(alloc, &Command::Set { register, value }),
         Line::Step { turns } => panel.act(alloc, &Command::Step { turns }),

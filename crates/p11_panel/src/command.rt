@@ -46,6 +46,10 @@ pub enum Command<A: Allocator = Global> {
     },
     /// Let the line clock tick.
     Tick,
+    /// Let the line clock tick by itself each time that so many turns are done, or with 0 no more.
+    Clock {
+        period: u32,
+    },
     /// Set the switch register.
     Switches {
         word: u16,

@@ -8,9 +8,8 @@ ghost use Rattle.p11_panel.specs.Disks.{mount_fault, Mounts, Unmounts, Saves, Sh
 use crate::command::Command;
 use crate::panel::Panel;
 use p11_lines::{Answer, Bytes, Fault, Words};
+use p11_rk11::DRIVES;
 use std::alloc::Allocator;
-
-const DRIVES: u32 = 2;
 
 /// A pack's sectors, 4,872 of 512 bytes.
 const IMAGE_BYTES: usize = 2_494_464;
@@ -24,7 +23,7 @@ impl<A: Allocator + Copy> Panel<A> {
         ensures empty { IfNone result (is_some (drive_of self.now.bus.disk drive) ≡ false) }
         ensures fits { IfNone result (length image.now ≤ image_bytes) }
     {
-        if drive >= DRIVES {
+        if drive as usize >= DRIVES {
             return Some(Fault::NoDrive);
         }
         if self.machine.drive(drive as usize).is_some() {
@@ -53,7 +52,7 @@ impl<A: Allocator + Copy> Panel<A> {
     pub(crate) fn unmount(&mut self, drive: u32) -> Answer<A>
         ensures { Unmounts drive self.old result self.new }
     {
-        if drive >= DRIVES {
+        if drive as usize >= DRIVES {
             return Answer::Refused(Fault::NoDrive);
         }
         if self.machine.drive(drive as usize).is_none() {
@@ -71,7 +70,7 @@ impl<A: Allocator + Copy> Panel<A> {
         ensures ok { IfOk result (λ image. Saves {A = A} drive self.now (Answer.Image image) self.now) }
         ensures err { IfErr result (λ fault. Saves {A = A} drive self.now (Answer.Refused fault) self.now) }
     {
-        if drive >= DRIVES {
+        if drive as usize >= DRIVES {
             return Err(Fault::NoDrive);
         }
         let Some(pack) = self.machine.drive(drive as usize) else {
@@ -97,7 +96,7 @@ impl<A: Allocator + Copy> Panel<A> {
     pub(crate) fn changed(&self, alloc: A, drive: u32) -> Answer<A>
         ensures { ShowsChanged drive self.now result self.now }
     {
-        if drive >= DRIVES {
+        if drive as usize >= DRIVES {
             return Answer::Refused(Fault::NoDrive);
         }
         let Some(pack) = self.machine.drive(drive as usize) else {

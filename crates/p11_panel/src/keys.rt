@@ -1,5 +1,5 @@
 ghost use Rattle.std.specs.Prelude.{◌≡◌};
-ghost use Rattle.p11_cpu.specs.Console.{key_of};
+ghost use Rattle.p11_cpu.specs.OperatorDevices.{key_of};
 ghost use Rattle.p11_panel.specs.Keys.{pressed};
 
 use crate::panel::Panel;

@@ -59,6 +59,7 @@ impl<A: Allocator + Copy> Panel<A> {
             Command::Start { address } => self.start(*address),
             Command::Key { text } => self.key(text.as_slice()),
             Command::Tick => self.tick(),
+            Command::Clock { period } => self.clock(*period),
             Command::Switches { word } => self.switches(*word),
             Command::Set { register, value } => self.set(*register, *value),
             Command::Step { turns } => self.step(*turns),
@@ -137,6 +138,14 @@ impl<A: Allocator + Copy> Panel<A> {
         ensures { Acts self.old Command.Tick result self.new }
     {
         self.machine.tick();
+        Answer::Done
+    }
+
+    /// CLOCK.
+    fn clock(&mut self, period: u32) -> Answer<A>
+        ensures { Acts self.old (Command.Clock period) result self.new }
+    {
+        self.machine.set_period(period);
         Answer::Done
     }
 

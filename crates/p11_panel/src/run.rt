@@ -29,12 +29,10 @@ pub(crate) fn run<A: Allocator>(
         if idles(machine, until_idle) {
             return (made, StopReason::Idle);
         }
-        if machine.prepare_turn().is_err() {
-            return (made, StopReason::Memory);
-        }
-        match machine.turn() {
-            Turn::Ran => {}
-            Turn::Halted => return (made + 1, StopReason::Halt),
+        match machine.try_turn() {
+            Ok(Turn::Ran) => {}
+            Ok(Turn::Halted) => return (made + 1, StopReason::Halt),
+            Err(_) => return (made, StopReason::Memory),
         }
     }
     (turns, StopReason::Turns)

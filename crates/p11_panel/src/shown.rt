@@ -1,15 +1,28 @@
 // What the operator is shown of the processor and of the devices.
 ghost use Rattle.std.specs.Prelude.{◌≡◌};
 ghost use Rattle.p11_panel.specs.Shown.{mark_of, registers_of, shown_devices};
-ghost use Rattle.p11_panel.specs.Shown.{shown_line, shown_disk, shown_drive, shown_drives, shown_requests};
+ghost use Rattle.p11_panel.specs.Shown.{shown_clock, shown_line, shown_disk, shown_drive, shown_drives, shown_requests};
 
 use crate::panel::Panel;
 use p11_lines::{
-    Devices, DiskRegisters, DriveShown, LineRegisters, ManagementRegisters, Mark, Registers,
-    Requests,
+    ClockShown, Devices, DiskRegisters, DriveShown, LineRegisters, ManagementRegisters, Mark,
+    Registers, Requests,
 };
+use p11_rk11::DRIVES;
 use p11_unibus::BusDevices;
 use std::alloc::Allocator;
+
+/// The line clock.
+#[tactic(auto, unfolding(crate::specs::Shown::shown_clock))]
+fn clock(shown: &BusDevices) -> ClockShown
+    ensures { result ≡ shown_clock shown.now }
+{
+    ClockShown {
+        status: shown.clock,
+        period: shown.clock_period,
+        due: shown.clock_due,
+    }
+}
 
 /// The console line.
 #[tactic(auto, unfolding(crate::specs::Shown::shown_line))]
@@ -60,10 +73,19 @@ fn drive(shown: Option<p11_unibus::DriveShown>) -> Option<DriveShown>
 
 /// The drives by number.
 #[tactic(auto, unfolding(crate::specs::Shown::shown_drives))]
-fn drives(shown: &[Option<p11_unibus::DriveShown>; 2]) -> [Option<DriveShown>; 2]
+fn drives(shown: &[Option<p11_unibus::DriveShown>; DRIVES]) -> [Option<DriveShown>; DRIVES]
     ensures { result ≡ shown_drives shown.now }
 {
-    [drive(shown[0]), drive(shown[1])]
+    [
+        drive(shown[0]),
+        drive(shown[1]),
+        drive(shown[2]),
+        drive(shown[3]),
+        drive(shown[4]),
+        drive(shown[5]),
+        drive(shown[6]),
+        drive(shown[7]),
+    ]
 }
 
 /// The requests.
@@ -105,7 +127,7 @@ impl<A: Allocator> Panel<A> {
     {
         let shown = self.machine.devices();
         Devices {
-            clock: shown.clock,
+            clock: clock(&shown),
             line: line(&shown),
             disk: disk(&shown.disk),
             drives: drives(&shown.drives),

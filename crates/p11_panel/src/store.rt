@@ -24,7 +24,7 @@ pub trait Store {
     /// The bytes under a name.
     fn fetch<A: Allocator>(&mut self, alloc: A, name: &[u8]) -> Result<Vec<u8, A>, StoreError>
         ensures ok { IfOk result (λ bytes. Fetches (state self.old) name.now bytes.items (state self.new)) }
-        ensures err { IfErr result (λ e. FailsToFetch (state self.old) e (state self.new)) };
+        ensures err { IfErr result (λ e. FailsToFetch (state self.old) name.now e (state self.new)) };
 
     /// Leaves bytes under a name. It never answers `NoMemory`.
     fn put(&mut self, name: &[u8], bytes: &[u8]) -> Result<(), StoreError>

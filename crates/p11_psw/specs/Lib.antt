@@ -2,3 +2,4 @@ pub mod Fields
 pub mod Status
 pub mod Sources
 pub mod Vectors
+pub mod Zones

@@ -30,6 +30,8 @@ pub(crate) struct Places {
 pub(crate) struct CaseLine {
     pub(crate) text: String,
     pub(crate) places: Places,
+    /// The answer with which want of memory stops its run first; empty where that isn't compared.
+    pub(crate) stop: String,
 }
 
 /// What is tried with a case.
@@ -79,7 +81,20 @@ impl Case {
     ) -> Result<(), AllocError> {
         for line in lines.split("; ") {
             let text = String::from_str(alloc, line)?;
-            self.lines.push(CaseLine { text, places })?;
+            self.lines.push(CaseLine {
+                text,
+                places,
+                stop: String::new(alloc),
+            })?;
+        }
+        Ok(())
+    }
+
+    /// Takes the answer with which want of memory stops the run of the last line first.
+    pub(crate) fn set_stop(&mut self, alloc: Global, answer: &str) -> Result<(), AllocError> {
+        if let Some(mut line) = self.lines.pop() {
+            line.stop = format!(in alloc; "{answer}\n")?;
+            self.lines.push(line)?;
         }
         Ok(())
     }

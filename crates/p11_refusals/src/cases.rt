@@ -14,6 +14,7 @@ use std::alloc::Global;
 /// - `> LINE`: a line of its script, which nothing refuses; `> LINE; LINE` two, and so on.
 /// - `+ LEAST MOST LINE; LINE`: such lines, each refused at so many places at least and at most, where `-` is any
 ///   number.
+/// - `* ANSWER`: the answer with which want of memory stops the run of the line above first.
 /// - `^ LEAST MOST`: at how many places the new machine is refused.
 /// - `? LINE`: the answer of this line belongs to the state, beside the registers, the devices and the changed sectors.
 /// - `& NAME`: the session leaves a file of this name, whose bytes are compared too.
@@ -133,6 +134,7 @@ fn take_part(alloc: Global, case: &mut Case, sign: &str, rest: &str) -> Result<(
             let (places, lines) = places(alloc, rest)?;
             case.add_lines(alloc, lines, places)?;
         }
+        "*" => case.set_stop(alloc, rest)?,
         "^" => case.machine = places(alloc, rest)?.0,
         "?" => case.add_look(rest)?,
         "&" => case.left.push(String::from_str(alloc, rest)?)?,

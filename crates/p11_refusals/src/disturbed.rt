@@ -23,12 +23,20 @@ pub(crate) struct Disturbed<L: Ledger, A: Allocator> {
     state: String,
 }
 
-/// A line on its way: what is left of it, the parts of its run that are made, and at how many places it was refused.
+/// What was found of a line: at how many places it was refused, and with which answer memory stopped its run first.
+#[derive(Drop)]
+pub(crate) struct Tried {
+    pub(crate) places: u32,
+    pub(crate) stop: String,
+}
+
+/// A line on its way: what is left of it, the parts of its run that are made, and what was found so far.
 #[derive(Drop)]
 struct Way {
     left: String,
     parts: Parts,
     places: u32,
+    stop: String,
     /// Whether the next turn of its run is known to want memory.
     wants: bool,
 }
@@ -50,20 +58,20 @@ impl<L: Ledger, A: Allocator + Copy> Disturbed<L, A> {
         Ok(())
     }
 
-    /// Does a line, each of whose growths is refused, and compares it with the undisturbed one: at how many places it
-    /// was refused.
+    /// Does a line, each of whose growths is refused, and compares it with the undisturbed one: what was found.
     pub(crate) fn finish_line(
         &mut self,
         alloc: Global,
         setting: &Setting<'_>,
         step: &Step,
-    ) -> Result<u32, Wrong> {
+    ) -> Result<Tried, Wrong> {
         self.state = self.shown(alloc, setting)?;
         self.ballast.fill()?;
         let mut way = Way {
             left: step.line.clone()?,
             parts: Parts::new(alloc),
             places: 0,
+            stop: String::new(alloc),
             wants: false,
         };
         for _ in 0..MOST_TRIES {
@@ -79,7 +87,10 @@ impl<L: Ledger, A: Allocator + Copy> Disturbed<L, A> {
                 Some(stop) => self.part(alloc, &mut way, &stop, state)?,
                 None => {
                     self.done(alloc, &way, step, (asked, answer, state))?;
-                    return Ok(way.places);
+                    return Ok(Tried {
+                        places: way.places,
+                        stop: way.stop,
+                    });
                 }
             }
         }
@@ -126,6 +137,9 @@ impl<L: Ledger, A: Allocator + Copy> Disturbed<L, A> {
             return self.refused(alloc, way.left.as_str(), state.as_str());
         }
         way.wants = false;
+        if stop.reason == "memory" && way.stop.is_empty() {
+            way.stop = stop.text(alloc, "memory")?;
+        }
         let line = part_of(alloc, way.left.as_str(), stop.turns)?;
         self.add(line, stop.text(alloc, "turns")?, state)?;
         way.parts.add(stop)?;

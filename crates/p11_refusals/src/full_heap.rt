@@ -7,7 +7,7 @@ use crate::calm::{Played, play_calmly, same_session};
 use crate::case::Setting;
 use crate::disturbed::Disturbed;
 use crate::shelf::Shelf;
-use crate::wrong::{Wrong, bad_line};
+use crate::wrong::{Wrong, bad_line, same};
 use linked_list_allocator::LocalHeap;
 use p11_panel::Panel;
 use std::alloc::{Allocator, Global};
@@ -76,8 +76,16 @@ fn play_lines<L: Ledger, A: Allocator + Copy>(
 ) -> Result<(), Wrong> {
     disturbed.begin(alloc, setting)?;
     for (step, line) in calm.steps.iter().zip(setting.case.lines.iter()) {
-        let count = disturbed.finish_line(alloc, setting, step)?;
-        line.places.judge(alloc, step.line.as_str(), count)?;
+        let tried = disturbed.finish_line(alloc, setting, step)?;
+        line.places.judge(alloc, step.line.as_str(), tried.places)?;
+        if !line.stop.is_empty() {
+            same(
+                alloc,
+                step.line.as_str(),
+                line.stop.as_str(),
+                tried.stop.as_str(),
+            )?;
+        }
     }
     Ok(())
 }

@@ -11,8 +11,8 @@ use Rattle.p11_rk11.specs.Registers.{is_due}
 use Rattle.p11_rk11.specs.Starts.{after_start_on}
 use Rattle.p11_rk11.specs.State.{Rk11State, drive_count, drive_of, selected, with_drive, with_registers_and_drive, drive_after_init, disk_after_unmount, is_busy}
 use Rattle.p11_rk11.specs.View.{Rk11View, view_of, visible_drive}
-use Rattle.p11_rk11.proofs.Parts.{drive_changed, drive_mapped, part_changed, selected_changed}
-use Rattle.p11_rk11.proofs.Reachable.{idle, same_registers, changed_reachable, reachable_after_unmount, seek_acted, started_on, moved_on, due_runs, there_number}
+use Rattle.p11_rk11.proofs.Parts.{drive_changed, drive_mapped, part_changed, selected_changed, visible_same}
+use Rattle.p11_rk11.proofs.Reachable.{idle, same_registers, changed_reachable, reachable_after_unmount, seek_acted, started_on, moved_on, due_runs}
 
 abbrev pub Kept : Registers → List (Option MountedState) → Type 0
 Kept r drives = (length drives ≡ drive_count) × TransferHasPlace (view_of r drives).state
@@ -43,6 +43,11 @@ kept_unmounted v r drives n view lt free h =
     let P : Rk11View → Type 0 = λ v. is_busy n v.state ≡ false in
     kept_drive r drives n None (with_drive s n None) h.0 (drive_changed r drives n None lt) (reachable_after_unmount s n (subst P (sym view) free) h.1)
 
+pub kept_same : (r : Registers) (drives : List (Option MountedState)) (n : ℕ) (b b' d : Option MountedState) → b ≡ get_or drives n d
+    → visible_drive b' ≡ visible_drive b → Kept r drives → Kept r (set drives n b')
+kept_same r drives n b b' d is same h =
+    kept_drive r drives n b' (view_of r drives).state h.0 (visible_same r drives n b b' d is same) h.1
+
 init_there : (d : Option MountedDrive) → is_some d ≡ true → is_some (drive_after_init d) ≡ true
 init_there None there = there
 init_there (Some drive) there = refl
@@ -69,14 +74,11 @@ kept_started turn n r r' drives b b' d same lt is done h =
     (selected_changed r r' drives n b b' d (λ r drive. after_start_on turn r drive) same lt h.0 is done) (started_on turn s (selected s) refl h.1)
 
 -- what a transfer that is due finds
-pub due_place : (turn n : ℕ) (v : Rk11View) (r : Registers) (drives : List (Option MountedState)) → view_of r drives ≡ v → n ≡ r.disk_address.drive
-    → is_due turn v.state.registers.transfer ≡ true → Kept r drives → (n < drive_count) × (is_on_disk r.disk_address ≡ true)
-due_place turn n v r drives view same due h =
-    let s : Rk11State = (view_of r drives).state in
+pub due_place : (turn : ℕ) (v : Rk11View) (r : Registers) (drives : List (Option MountedState)) → view_of r drives ≡ v
+    → is_due turn v.state.registers.transfer ≡ true → Kept r drives → is_on_disk r.disk_address ≡ true
+due_place turn v r drives view due h =
     let P : Rk11View → Type 0 = λ v. is_due turn v.state.registers.transfer ≡ true in
-    let Q : ℕ → Type 0 = λ k. k < drive_count in
-    let place = h.1 (due_runs turn r.transfer (subst P (sym view) due)) in
-    (subst Q (sym same) (there_number s r.disk_address.drive place.1), place.0)
+    (h.1 (due_runs turn r.transfer (subst P (sym view) due))).0
 
 pub kept_moved : (turn n : ℕ) (r r' : Registers) (drives : List (Option MountedState)) (b b' d : Option MountedState) (m m' : Words) → n ≡ r.disk_address.drive → n < drive_count
     → is_on_disk r.disk_address ≡ true → b ≡ get_or drives n d → after_sector_on turn r (visible_drive b) m ≡ (r', visible_drive b', m') → Kept r drives → Kept r' (set drives n b')

@@ -1,6 +1,6 @@
 -- A controller is seen by its parts: one drive read, and one drive changed beside the registers.
 use Rattle.std.proofs.Common.{◌≡◌, ℕ, zero, suc, ◌<◌, ◌≤◌, Bool, true, false, List, [], ◌∷◌, length, map, set, get_or, Option, Some, None, is_some, refl, sym, ap, subst, ◌∙◌, arith, inl, inr}
-use Rattle.std.specs.Prelude.{IsTrue, nat_eq, ◌&&◌, Result, Ok, Err, OnOk, nat_lt, if◌then◌else◌, slice_set, slice_index_or}
+use Rattle.std.specs.Prelude.{IsTrue, nat_eq, ◌&&◌, Result, Ok, Err, OnOk, OnErr, nat_lt, if◌then◌else◌, slice_index_or}
 use Rattle.std.specs.List.{list_any}
 use Rattle.std.proofs.lemmas.Bool.{both_ways, cases_eq, lt-ltb, le-ltb}
 use Rattle.std.proofs.lemmas.List.{get_or_default, get_or-set_same, get_or-set_other, length-set, map-set}
@@ -12,9 +12,7 @@ use Rattle.p11_rk11.specs.Memory.{Words}
 use Rattle.p11_rk11.specs.Place.{sector_number}
 use Rattle.p11_rk11.specs.Functions.{is_write}
 use Rattle.p11_rk11.proofs.Words.{accepted}
-use Rattle.p11_rk11.specs.Registers.{failed, is_due}
-use Rattle.p11_rk11.specs.Starts.{after_start_on}
-use Rattle.p11_rk11.specs.declared.errors.Failure.TheVariants.{NoDisk}
+use Rattle.p11_rk11.specs.Registers.{is_due}
 use Rattle.p11_rk11.specs.Drives.{MountedDrive, MountedState}
 use Rattle.p11_rk11.specs.State.{Rk11State, drive_count, heads_at, drive_of, selected, with_drive, with_registers_and_drive}
 use Rattle.p11_rk11.specs.View.{Rk11View, view_of, visible_drive, prepared_sectors, prepared_on, IsPreparedDrive, IsPreparedSector, IsPreparedFor, KeepsPrepared, write_is_due, needs_memory, is_listed}
@@ -23,6 +21,11 @@ set_again : {X : Type 0} (xs : List X) (n : ℕ) (a b : X) → set (set xs n a) 
 set_again [] n a b = refl
 set_again (x ∷ xs) zero a b = refl
 set_again (x ∷ xs) (suc n) a b = ap (λ ys. x ∷ ys) (set_again xs n a b)
+
+pub set_get : {X : Type 0} (xs : List X) (n : ℕ) (d : X) → set xs n (get_or xs n d) ≡ xs
+set_get [] n d = refl
+set_get (x ∷ xs) zero d = refl
+set_get (x ∷ xs) (suc n) d = ap (λ ys. x ∷ ys) (set_get xs n d)
 
 -- a drive that was taken and put back
 pub put_back : (drives taken after : List (Option MountedState)) (n : ℕ) (b : Option MountedState) → taken ≡ set drives n None → after ≡ set taken n b → after ≡ set drives n b
@@ -64,13 +67,6 @@ part_changed r r' drives n b b' d step lt len is done =
     let after : step r (drive_of s n) ≡ (r', visible_drive b') = ap (λ d. step r d) (drive_seen r drives n b d lt len is) ∙ done in
     ap (λ (t : Rk11State). record t { registers = r' }) (drive_changed r drives n b' lt)
     ∙ ap (λ (p : Registers × Option MountedDrive). record (with_drive s n p.1) { registers = p.0 }) (sym after)
-
--- where there is no such drive, the registers alone
-pub no_part_changed : (s : Rk11State) (r : Registers) (n : ℕ) (drive : Option MountedDrive) → drive_count ≤ n
-    → record s { registers = r } ≡ with_registers_and_drive s n (r, drive)
-unfolding with_registers_and_drive with_drive
-no_part_changed s r n drive le =
-    ap (λ (t : Bool). record (if t then record s { drives = slice_set s.drives n drive } else s) { registers = r }) (sym (le-ltb n drive_count le))
 
 -- what is prepared stays
 pub prepared_same : (drives : List (Option MountedState)) (n : ℕ) (b b' d : Option MountedState) → n < length drives
@@ -125,17 +121,6 @@ selected_changed r r' drives n b b' d step same lt len is done =
     let s : Rk11State = (view_of r drives).state in
     part_changed r r' drives n b b' d step lt len is done ∙ ap (λ (k : ℕ). with_registers_and_drive s k (step r (drive_of s k))) same
 
-pub none_selected : (s : Rk11State) (n : ℕ) → n ≡ s.registers.disk_address.drive → drive_count ≤ n → selected s ≡ None
-none_selected s n same le = ap (λ (k : ℕ). drive_of s k) (sym same) ∙ no_drive_seen s n le
-
-pub none_started : (s : Rk11State) (r : Registers) (n turn : ℕ) → n ≡ s.registers.disk_address.drive → drive_count ≤ n → r ≡ failed NoDisk s.registers
-    → record s { registers = r } ≡ with_registers_and_drive s s.registers.disk_address.drive (after_start_on turn s.registers (selected s))
-none_started s r n turn same le is =
-    no_part_changed s r n None le
-    ∙ ap (λ (k : ℕ). with_registers_and_drive s k (r, None)) same
-    ∙ ap (λ (q : Registers). with_registers_and_drive s s.registers.disk_address.drive (q, None)) is
-    ∙ ap (λ drive. with_registers_and_drive s s.registers.disk_address.drive (after_start_on turn s.registers drive)) (sym (none_selected s n same le))
-
 pub selected_moved : (r r' : Registers) (drives : List (Option MountedState)) (n : ℕ) (b b' d : Option MountedState) (m m' : Words)
     (step : Registers → Option MountedDrive → Words → Registers × Option MountedDrive × Words)
     → n ≡ r.disk_address.drive → n < drive_count → length drives ≡ drive_count → b ≡ get_or drives n d → step r (visible_drive b) m ≡ (r', visible_drive b', m')
@@ -173,6 +158,12 @@ visible_same r drives n b b' d is same =
     ap (λ (list : List (Option MountedDrive)). let s : Rk11State = record { registers = r; drives = list } in s)
     (map-set_same visible_drive drives n b' d (same ∙ ap visible_drive is))
 
+-- and so does the whole where a drive is put back as it was
+pub view_same : (v : Rk11View) (r : Registers) (drives : List (Option MountedState)) (n : ℕ) (b b' d : Option MountedState) → view_of r drives ≡ v
+    → b ≡ get_or drives n d → b' ≡ b → view_of r (set drives n b') ≡ v
+view_same v r drives n b b' d view is same =
+    ap (λ (list : List (Option MountedState)). view_of r list) (ap (λ (b : Option MountedState). set drives n b) (same ∙ is) ∙ set_get drives n d) ∙ view
+
 pub prepared_changed : (drives : List (Option MountedState)) (n : ℕ) (b : Option MountedState)
     → map prepared_sectors (set drives n b) ≡ set (map prepared_sectors drives) n (prepared_sectors b)
 prepared_changed drives n b = map-set prepared_sectors drives n b
@@ -183,11 +174,6 @@ pub prepared_after : (r : Registers) (drives : List (Option MountedState)) (n : 
 prepared_after r drives n b same lt len h =
     prepared_selected r (set drives n b) n b None same lt (length-set drives n b ∙ len) (sym (get_or-set_same drives n b None (omega (arith, lt, len)))) h
 
-pub none_prepared : (v : Rk11View) (n : ℕ) → n ≡ v.state.registers.disk_address.drive → drive_count ≤ n → IsPreparedSector v
-none_prepared v n same le =
-    let P : Option MountedDrive → Type 0 = λ d. IsPreparedDrive d (prepared_on v v.state.registers.disk_address.drive) (sector_number v.state.registers.disk_address) in
-    subst P (sym (none_selected v.state n same le)) tt
-
 pub no_heads : (o : Option MountedDrive) → is_some o ≡ true → heads_at o ≡ None → ⊥
 no_heads None some none = cc some
 no_heads (Some d) some none = cc none
@@ -195,6 +181,10 @@ no_heads (Some d) some none = cc none
 pub on_ok : {P Q E : Type 0} (r : Result (Unit {0}) E) → (P → Q) → OnOk r P → OnOk r Q
 on_ok (Ok u) f p = f p
 on_ok (Err e) f p = p
+
+pub on_err : {U P Q E : Type 0} (r : Result U E) → (P → Q) → OnErr r P → OnErr r Q
+on_err (Ok u) f p = p
+on_err (Err e) f p = f p
 
 pub both_true : (a b : Bool) → a ≡ true → b ≡ true → a && b ≡ true
 both_true a b ha hb = rw (ha, hb) refl

@@ -47,7 +47,7 @@ same_registers s r transfer place h =
     same s (record s { registers = r }) transfer place
     (λ there. ap (λ (p : Place). is_some (drive_of s p.drive)) place ∙ there) h
 
-pub there_number : (s : Rk11State) (n : ℕ) → is_some (drive_of s n) ≡ true → n < drive_count
+there_number : (s : Rk11State) (n : ℕ) → is_some (drive_of s n) ≡ true → n < drive_count
 unfolding drive_of
 there_number s n there =
     elim (cases_Bool (nat_lt n drive_count)) [

@@ -1,5 +1,5 @@
 -- Acts and due turns: nothing acts before it is due, and what has acted is due later or not at all.
-use Rattle.std.proofs.Common.{◌≡◌, ℕ, zero, suc, ◌+◌, ◌<◌, ◌≤◌, Bool, true, false, List, [], ◌∷◌, length, set, get_or, Option, Some, None, refl, sym, ap, subst, ◌∙◌, arith, inl, inr}
+use Rattle.std.proofs.Common.{◌≡◌, ℕ, zero, suc, ◌+◌, ◌<◌, ◌≤◌, Bool, true, false, List, length, set, get_or, Option, Some, None, refl, sym, ap, subst, ◌∙◌, arith, inl, inr}
 use Rattle.std.specs.Prelude.{◌&&◌, ◌==◌, nat_lt, if◌then◌else◌}
 use Rattle.std.proofs.lemmas.Bool.{both_ways, cases_lt, cases_eq, eq-eqb, lt-ltb, ne_eqb, cases_Bool}
 use Rattle.std.proofs.lemmas.List.{get_or_past, get_or-set_same, get_or-set_other, length-set}
@@ -11,6 +11,7 @@ use Rattle.p11_rk11.specs.Drives.{MountedDrive}
 use Rattle.p11_rk11.specs.Memory.{Words}
 use Rattle.p11_rk11.specs.Registers.{is_due, ended, failed, requested, registers_after_sector, next_sector_or_end}
 use Rattle.p11_rk11.specs.State.{Rk11State, drive_count, drive_of, with_drive, with_registers_and_drive, selected, seek_turn, seek_due, earlier, due_among, disk_due, IsBefore, IsNotAfter}
+use Rattle.p11_rk11.proofs.Parts.{set_get}
 
 -- a turn before the earlier of two due turns is before both
 before_both : (turn : ℕ) (a b : Option ℕ) → IsBefore turn (earlier a b) → IsBefore turn a × IsBefore turn b
@@ -70,11 +71,6 @@ not_due turn None h = refl
 not_due turn (Some due) h = ne_eqb due turn (λ e. omega (arith, h, e))
 
 -- a list with an element put where it was
-set_get : {X : Type 0} (xs : List X) (n : ℕ) (d : X) → set xs n (get_or xs n d) ≡ xs
-set_get [] n d = refl
-set_get (x ∷ xs) zero d = refl
-set_get (x ∷ xs) (suc n) d = ap (λ ys. x ∷ ys) (set_get xs n d)
-
 same_drive : (s : Rk11State) (n : ℕ) → with_drive s n (drive_of s n) ≡ s
 unfolding with_drive drive_of
 same_drive s n =

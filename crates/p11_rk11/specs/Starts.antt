@@ -63,7 +63,7 @@ after_start turn r drive = after_check turn r drive (drive_check r drive)
 unfoldable pub registers_cleared_by_go : Registers → Registers
 registers_cleared_by_go r = record r { errors = record r.errors { write_check = false }; search_complete = false }
 
--- a function on a drive, where an absent or empty one is no disk
+-- a function on a drive, where an empty one is no disk
 abbrev pub after_start_on : ℕ → Registers → Option MountedDrive → Registers × Option MountedDrive
 after_start_on turn r None = (failed NoDisk r, None)
 after_start_on turn r (Some drive) = ((after_start turn r drive).0, Some (after_start turn r drive).1)

@@ -13,14 +13,14 @@ use Rattle.p11_rk11.specs.Registers.{cleared_registers, control_word}
 
 -- the number of drives, whose numbers begin with 0
 abbrev pub drive_count : ℕ
-drive_count = 2
+drive_count = 8
 
 -- The registers, and for each drive what is mounted on it.
 pub record Rk11State : Type 0 where
   pub registers : Registers
   pub drives : List (Option MountedDrive)
 
--- what is mounted on drive n; nothing on a drive that isn't there
+-- what is mounted on drive n; nothing for a number beyond those of the drives
 unfoldable pub drive_of : Rk11State → ℕ → Option MountedDrive
 drive_of s n = if nat_lt n drive_count then slice_index_or s.drives n None else None
 
@@ -31,7 +31,7 @@ with_drive s n drive = if nat_lt n drive_count then record s { drives = slice_se
 unfoldable pub with_registers_and_drive : Rk11State → ℕ → Registers × Option MountedDrive → Rk11State
 with_registers_and_drive s n part = record (with_drive s n part.1) { registers = part.0 }
 
--- the drive that RKDA selects
+-- the drive that RKDA selects, which is always there: RKDA 15:13 are a number from 0 to 7
 abbrev pub selected : Rk11State → Option MountedDrive
 selected s = drive_of s s.registers.disk_address.drive
 
@@ -46,7 +46,7 @@ drive_status turn sector drive =
     turn % 12 + flag (turn % 12 == sector) 0o20 + flag drive.contents.protected 0o40
     + flag (not (is_some drive.seek)) 0o100 + 0o4600
 
--- the same, 0 for an absent or empty drive
+-- the same, 0 for an empty drive
 unfoldable pub status_of : ℕ → ℕ → Option MountedDrive → ℕ
 status_of turn sector None = 0
 status_of turn sector (Some drive) = drive_status turn sector drive

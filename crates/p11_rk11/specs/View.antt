@@ -22,7 +22,7 @@ abbrev pub prepared_sectors : Option MountedState → List ℕ
 prepared_sectors None = []
 prepared_sectors (Some drive) = drive.prepared
 
--- what is prepared on drive n; nothing on a drive that isn't there
+-- what is prepared on drive n; nothing for a number beyond those of the drives
 unfoldable pub prepared_on : Rk11View → ℕ → List ℕ
 prepared_on v n = slice_index_or v.prepared n []
 

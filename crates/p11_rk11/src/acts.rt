@@ -42,14 +42,10 @@ impl<A: Allocator> Rk11<A> {
         ensures again { IsPreparedSector self.old → IsOk result }
     {
         let n = self.registers.disk_address.drive();
-        if n < DRIVES {
-            let mut drive = self.drives.take(n);
-            let outcome = bay::prepare(&mut drive, self.registers.disk_address);
-            self.drives.put(n, drive);
-            outcome
-        } else {
-            Ok(())
-        }
+        let mut drive = self.drives.take(n);
+        let outcome = bay::prepare(&mut drive, self.registers.disk_address);
+        self.drives.put(n, drive);
+        outcome
     }
 
     /// What the controller does in a turn: the transfer moves its sector where one is due, and then
@@ -105,19 +101,10 @@ impl<A: Allocator> Rk11<A> {
             (self.new.state, M.words memory.new) }
         ensures room { M.room memory.old ≤ M.room memory.new + 256 }
     {
-        let n = self.due_drive(turn);
+        let n = self.registers.disk_address.drive();
         let mut drive = self.drives.take(n);
         bay::move_sector(&mut drive, turn, &mut self.registers, memory);
         self.drives.put(n, drive);
-    }
-
-    /// The drive of a transfer that is due.
-    fn due_drive(&self, turn: u64) -> usize
-        requires { is_due turn self.now.state.registers.transfer ≡ true }
-        ensures value { result ≡ self.now.state.registers.disk_address.drive }
-        ensures bound { result < drive_count }
-    {
-        self.registers.disk_address.drive()
     }
 
     /// Finishes the seeks that are due, by number of their drives.

@@ -14,7 +14,7 @@ use std::alloc::{Allocator, Global};
 use std::marker::Model;
 
 /// The number of drives. Their numbers begin with 0.
-pub const DRIVES: usize = 2;
+pub const DRIVES: usize = 8;
 
 /// Where the heads of a drive are.
 #[derive(Clone, Copy, Debug, PartialEq, Eq)]
@@ -91,15 +91,11 @@ impl<A: Allocator> Rk11<A> {
         ensures bound { result < 0o20000 }
     {
         let n = self.registers.disk_address.drive();
-        if n < DRIVES {
-            bay::status(
-                self.drives.at(n),
-                turn,
-                self.registers.disk_address.sector(),
-            )
-        } else {
-            0
-        }
+        bay::status(
+            self.drives.at(n),
+            turn,
+            self.registers.disk_address.sector(),
+        )
     }
 
     /// Writes a register in a turn.
@@ -188,13 +184,9 @@ impl<A: Allocator> Rk11<A> {
         ensures prepared { self.new.prepared ≡ self.old.prepared }
     {
         let n = self.registers.disk_address.drive();
-        if n < DRIVES {
-            let mut drive = self.drives.take(n);
-            bay::start(&mut drive, turn, &mut self.registers);
-            self.drives.put(n, drive);
-        } else {
-            self.registers.fail(Failure::NoDisk);
-        }
+        let mut drive = self.drives.take(n);
+        bay::start(&mut drive, turn, &mut self.registers);
+        self.drives.put(n, drive);
     }
 
     /// The earliest turn in which the transfer or a seek acts, if one is under way.

@@ -11,6 +11,12 @@ use std::marker::Model;
 pub(crate) struct Drives<A: Allocator = Global> {
     first: Option<Mounted<A>>,
     second: Option<Mounted<A>>,
+    third: Option<Mounted<A>>,
+    fourth: Option<Mounted<A>>,
+    fifth: Option<Mounted<A>>,
+    sixth: Option<Mounted<A>>,
+    seventh: Option<Mounted<A>>,
+    eighth: Option<Mounted<A>>,
 }
 
 impl<A: Allocator> Model for Drives<A> {
@@ -19,7 +25,7 @@ impl<A: Allocator> Model for Drives<A> {
 
     ghost Value = { List (Option MountedState) };
 
-    ghost view = { λ d. d.first ∷ d.second ∷ [] };
+    ghost view = { λ d. d.first ∷ d.second ∷ d.third ∷ d.fourth ∷ d.fifth ∷ d.sixth ∷ d.seventh ∷ d.eighth ∷ [] };
 }
 
 impl<A: Allocator> Drives<A> {
@@ -30,6 +36,12 @@ impl<A: Allocator> Drives<A> {
         Drives {
             first: None,
             second: None,
+            third: None,
+            fourth: None,
+            fifth: None,
+            sixth: None,
+            seventh: None,
+            eighth: None,
         }
     }
 
@@ -40,7 +52,13 @@ impl<A: Allocator> Drives<A> {
     {
         match n {
             0 => &self.first,
-            _ => &self.second,
+            1 => &self.second,
+            2 => &self.third,
+            3 => &self.fourth,
+            4 => &self.fifth,
+            5 => &self.sixth,
+            6 => &self.seventh,
+            _ => &self.eighth,
         }
     }
 
@@ -52,7 +70,13 @@ impl<A: Allocator> Drives<A> {
     {
         match n {
             0 => self.first.take(),
-            _ => self.second.take(),
+            1 => self.second.take(),
+            2 => self.third.take(),
+            3 => self.fourth.take(),
+            4 => self.fifth.take(),
+            5 => self.sixth.take(),
+            6 => self.seventh.take(),
+            _ => self.eighth.take(),
         }
     }
 
@@ -63,7 +87,13 @@ impl<A: Allocator> Drives<A> {
     {
         match n {
             0 => self.first = bay,
-            _ => self.second = bay,
+            1 => self.second = bay,
+            2 => self.third = bay,
+            3 => self.fourth = bay,
+            4 => self.fifth = bay,
+            5 => self.sixth = bay,
+            6 => self.seventh = bay,
+            _ => self.eighth = bay,
         }
     }
 }

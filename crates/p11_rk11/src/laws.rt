@@ -14,7 +14,7 @@ ghost use Rattle.p11_rk11.specs.State.{Rk11State, drive_count, disk_after_init, 
 
 use crate::controller::DRIVES;
 
-/// There are two drives.
+/// There are eight drives.
 pub fn number_of_drives()
     ensures { DRIVES ≡ drive_count }
 {}

@@ -1,5 +1,8 @@
-ghost use Rattle.std.specs.Prelude.{◌≡◌, ℕ, Option, IfOk, IfErr};
-ghost use Rattle.p11_run.specs.Launches.{AsksFor};
+ghost use Rattle.std.specs.Prelude.{◌≡◌, ℕ, Option, IfOk, IfErr, map, option_map, codes, false};
+ghost use Rattle.std.specs.String.{string_bytes};
+ghost use Rattle.clap.specs.Words.{app_of, found_of, rows_of, rule_of};
+ghost use Rattle.clap.specs.declared.builder.value_parser.ValueParser.TheVariants.{Unsigned};
+ghost use Rattle.p11_run.specs.Launches.{AsksFor, Asks, SizesIn, command_line, named_program, number_option, required_name, rows_in, number_of, script_in};
 ghost use Rattle.p11_run.specs.declared.ending.Cause.TheVariants as causes;
 
 use crate::ending::Cause;
@@ -17,6 +20,14 @@ pub struct Launch<'a> {
     pub script: &'a str,
 }
 
+/// What the words of a command line give: the numbers, where they are given, and the script's name.
+#[derive(Debug, Drop)]
+pub struct Asked<'a> {
+    pub memory: Option<u32>,
+    pub lines: Option<u32>,
+    pub script: &'a str,
+}
+
 /// The version that `--version` shows.
 const VERSION: &str = "0.1.0";
 
@@ -25,30 +36,58 @@ const MEMORY: u32 = 28;
 const LINES: u32 = 1024;
 
 /// A number that a 32-bit word holds. Whether a machine can have that size is judged later.
-fn number<'a>() -> ValueParser<'a> {
+fn number<'a>() -> ValueParser<'a>
+    ensures { result ≡ Unsigned 0 4294967295 }
+{
     ValueParser::unsigned(0, 4_294_967_295)
 }
 
-fn command<'a>(alloc: Global) -> Result<Command<'a>, AllocError> {
-    let memory = Arg::new(alloc, "memory")
-        .long("memory")
-        .value_name("K")
+/// An option with a number.
+fn option<'a>(alloc: Global, name: &'a str, value: &'a str, help: &'a str) -> Arg<'a>
+    ensures { (rule_of result ≡ number_option name.entry.now) × (result.global ≡ false) }
+{
+    Arg::new(alloc, name)
+        .long(name)
+        .value_name(value)
         .value_parser(number())
-        .help("Thousands of words of memory: 4 to 124 in steps of 4 [default: 28]");
-    let lines = Arg::new(alloc, "lines")
-        .long("lines")
-        .value_name("N")
-        .value_parser(number())
-        .help("Decoded words to keep: 0 to 4096 [default: 1024]");
-    let script = Arg::new(alloc, "SCRIPT")
+        .help(help)
+}
+
+/// The name of the script.
+fn script<'a>(alloc: Global) -> Arg<'a>
+    ensures { (rule_of result ≡ required_name (codes "SCRIPT")) × (result.global ≡ false) }
+{
+    Arg::new(alloc, "SCRIPT")
         .required(true)
-        .help("The operator's script");
+        .help("The operator's script")
+}
+
+/// The program, without its arguments.
+fn program<'a>(alloc: Global) -> Command<'a>
+    ensures { app_of result ≡ named_program (codes "p11") }
+{
     Command::new(alloc, "p11")
         .version(VERSION)
         .about("A PDP-11/40 under an operator's script")
-        .arg(memory)?
-        .arg(lines)?
-        .arg(script)
+}
+
+/// The command line that the program has.
+fn command<'a>(alloc: Global) -> Result<Command<'a>, AllocError>
+    ensures { IfOk result (λ command. app_of command ≡ command_line) }
+{
+    let memory = option(
+        alloc,
+        "memory",
+        "K",
+        "Thousands of words of memory: 4 to 124 in steps of 4 [default: 28]",
+    );
+    let lines = option(
+        alloc,
+        "lines",
+        "N",
+        "Decoded words to keep: 0 to 4096 [default: 1024]",
+    );
+    program(alloc).arg(memory)?.arg(lines)?.arg(script(alloc))
 }
 
 /// What clap answers, as the cause of an ending.
@@ -66,8 +105,42 @@ fn cause_of(alloc: Global, error: &Error) -> Cause {
     }
 }
 
-fn matches<'a>(alloc: Global, words: &'a [String]) -> Result<ArgMatches<'a>, Error> {
+/// What the words stand for.
+fn matches<'a>(alloc: Global, words: &'a [String]) -> Result<ArgMatches<'a>, Error>
+    ensures { IfOk result (λ matches. rows_of (found_of matches) ≡ rows_in (map string_bytes words.now)) }
+{
     command(alloc)?.try_get_matches_from(words)
+}
+
+/// The number that a text says, where there is one.
+fn number_of_text(text: Option<&str>) -> Result<Option<u32>, Cause>
+    ensures { IfOk result (λ number. number ≡ number_of (option_map (λ t. t.now) text.entry)) }
+{
+    let Some(text) = text else {
+        return Ok(None);
+    };
+    match text.parse::<u32>() {
+        Ok(number) => Ok(Some(number)),
+        Err(_) => Err(Cause::BadSize),
+    }
+}
+
+/// Reads the words of a command line, of which the first is the program's name.
+pub fn read_command_line<'a>(alloc: Global, words: &'a [String]) -> Result<Asked<'a>, Cause>
+    ensures { IfOk result (λ asked. Asks (rows_in (map string_bytes words.now)) asked) }
+{
+    let matches = match matches(alloc, words) {
+        Ok(matches) => matches,
+        Err(error) => return Err(cause_of(alloc, &error)),
+    };
+    let memory = number_of_text(matches.get_str("memory"))?;
+    let lines = number_of_text(matches.get_str("lines"))?;
+    let script = matches.get_str("SCRIPT").unwrap_or("");
+    Ok(Asked {
+        memory,
+        lines,
+        script,
+    })
 }
 
 /// The sizes that two numbers ask for.
@@ -82,20 +155,15 @@ fn sizes(memory: Option<u32>, lines: Option<u32>) -> Result<Config, Cause>
 }
 
 /// Reads the command line, whose first word is the program's name. The sizes are those that `Config::new` makes of the
-/// two numbers, 28 and 1,024 where they aren't given.
+/// numbers that are given, 28 and 1,024 where they aren't.
 pub fn settings<'a>(alloc: Global, words: &'a [String]) -> Result<Launch<'a>, Cause>
-    ensures { IfOk result (λ launch. (memory lines : Option ℕ) × AsksFor memory lines launch.config) }
+    ensures sizes { IfOk result (λ launch. SizesIn (rows_in (map string_bytes words.now)) launch.config) }
+    ensures script { IfOk result (λ launch. launch.script.now ≡ script_in (rows_in (map string_bytes words.now))) }
 {
-    let matches = match matches(alloc, words) {
-        Ok(matches) => matches,
-        Err(error) => return Err(cause_of(alloc, &error)),
-    };
-    let memory = matches.get_one::<u32>("memory");
-    let lines = matches.get_one::<u32>("lines");
-    let config = match sizes(memory, lines) {
-        Ok(config) => config,
-        Err(cause) => return Err(cause),
-    };
-    let script = matches.get_str("SCRIPT").unwrap_or("");
-    Ok(Launch { config, script })
+    let asked = read_command_line(alloc, words)?;
+    let config = sizes(asked.memory, asked.lines)?;
+    Ok(Launch {
+        config,
+        script: asked.script,
+    })
 }

@@ -2,3 +2,4 @@ pub mod Registers
 pub mod DeviceLaws
 pub mod Listing
 pub mod DueLemmas
+mod QuietLemmas

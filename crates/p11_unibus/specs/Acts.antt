@@ -1,6 +1,7 @@
--- What the devices do in a turn: the line clock nothing of itself, then the console line's receiver, then its
--- transmitter, and then the disk controller, which moves words from and to memory.
+-- What the devices do in a turn: the line clock, then the console line's receiver, then its transmitter, and then the
+-- disk controller, which moves words from and to memory.
 use Rattle.std.specs.Prelude.{ℕ, Bool, List, Option, Some, None, is_some, [], ◌∷◌, ◌++◌}
+use Rattle.p11_kw11.specs.LineClock.{clock_after_turn}
 use Rattle.p11_dl11.specs.LineEvents.{line_after_turn}
 use Rattle.p11_dl11.specs.ReceiverEvents.{receiver_due}
 use Rattle.p11_dl11.specs.TransmitterEvents.{typed_in, transmitter_due}
@@ -15,6 +16,10 @@ unfoldable pub with_typed : List ℕ → Option ℕ → List ℕ
 with_typed typed None = typed
 with_typed typed (Some character) = typed ++ character ∷ []
 
+-- the line clock acts
+unfoldable pub bus_after_clock : ℕ → BusState → BusState
+bus_after_clock turn b = record b { clock = clock_after_turn turn b.clock }
+
 -- the console line acts, and a character that is due is typed
 unfoldable pub bus_after_line : ℕ → BusState → BusState
 bus_after_line turn b =
@@ -26,12 +31,13 @@ bus_after_disk turn b =
     let after = disk_after_turn turn b.disk b.memory in record b { disk = after.0; memory = after.1 }
 
 unfoldable pub bus_after_turn : ℕ → BusState → BusState
-bus_after_turn turn b = bus_after_disk turn (bus_after_line turn b)
+bus_after_turn turn b = bus_after_disk turn (bus_after_line turn (bus_after_clock turn b))
 
 -- asked between this turn and the next: the turns in which the devices act if nothing else happens
 unfoldable pub due_of : ℕ → BusState → DueTurns
 due_of turn b =
     record {
+      clock = b.clock.due;
       receiver = receiver_due turn b.line.receiver;
       transmitter = transmitter_due b.line.transmitter;
       disk = disk_due b.disk;

@@ -46,6 +46,8 @@ unfoldable pub devices_of : ℕ → BusState → BusDevices
 devices_of turn b =
     record {
       clock = clock_word b.clock;
+      clock_period = b.clock.period;
+      clock_due = (due_of turn b).clock;
       receiver_status = line_word ReceiverStatus b.line;
       receiver_buffer = line_word ReceiverBuffer b.line;
       transmitter_status = line_word TransmitterStatus b.line;

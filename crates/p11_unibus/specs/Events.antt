@@ -1,6 +1,6 @@
 -- What the operator and INIT do to the devices.
 use Rattle.std.specs.Prelude.{ℕ, [], Result}
-use Rattle.p11_kw11.specs.LineClock.{clock_after_init, clock_after_tick}
+use Rattle.p11_kw11.specs.LineClock.{clock_after_init, clock_after_period, clock_after_tick}
 use Rattle.p11_dl11.specs.LineState.{LineState}
 use Rattle.p11_dl11.specs.LineEvents.{line_after_init, line_after_key}
 use Rattle.p11_dl11.specs.declared.line.KeysFull.{KeysFull}
@@ -25,6 +25,10 @@ bus_after_key key b = with_line b (line_after_key key b.line)
 -- the line ticks
 unfoldable pub bus_after_tick : BusState → BusState
 bus_after_tick b = record b { clock = clock_after_tick b.clock }
+
+-- a period of the line's ticks is set when so many turns are done
+unfoldable pub bus_after_period : ℕ → ℕ → BusState → BusState
+bus_after_period turn period b = record b { clock = clock_after_period turn period b.clock }
 
 -- the switches are set
 unfoldable pub bus_after_switches : ℕ → BusState → BusState

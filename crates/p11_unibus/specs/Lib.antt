@@ -6,6 +6,7 @@ pub mod Bus
 pub mod Written
 pub mod Acts
 pub mod Requests
+pub mod Quiet
 pub mod Events
 pub mod Prepared
 pub mod Device

@@ -3,12 +3,12 @@
 ghost use Rattle.std.specs.Prelude.{◌≡◌, ◌<◌, ◌≤◌, ◌^◌, [], true, false, OnOk, IsOk};
 ghost use Rattle.p11_rk11.specs.Acts.{stores_of};
 ghost use Rattle.p11_rk11.specs.View as disks;
-ghost use Rattle.p11_unibus.specs.Acts.{bus_after_disk, bus_after_line, bus_after_turn};
+ghost use Rattle.p11_unibus.specs.Acts.{bus_after_clock, bus_after_disk, bus_after_line, bus_after_turn};
 ghost use Rattle.p11_unibus.specs.Due.{comes_before, nearest_of};
 ghost use Rattle.p11_unibus.specs.Prepared.{IsPreparedFor, disk_view, needs_memory, types_in};
 ghost use Rattle.p11_unibus.specs.Written.{ChangedOnly};
 
-use crate::due::nearest;
+use crate::due::look_ahead;
 use crate::laws::the_acts_write_words_of_a_disk_read_alone;
 use crate::unibus::Unibus;
 use std::alloc::{AllocError, Allocator};
@@ -43,6 +43,18 @@ impl<A: Allocator> Unibus<A> {
         self.disk.prepare(turn)
     }
 
+    /// What the line clock does in this turn: where it is due, the line ticks.
+    #[tactic(auto, unfolding(crate::specs::Acts::bus_after_clock))]
+    fn clock_acts(&mut self, turn: u64)
+        requires { turn ≤ 2 ^ 62 }
+        ensures visible { self.new.visible ≡ bus_after_clock turn self.old.visible }
+        ensures prepared { self.new.prepared ≡ self.old.prepared }
+        ensures written { self.new.written ≡ self.old.written }
+    {
+        self.clock.act(turn);
+        self.ahead = look_ahead(&self.clock, &self.line, &self.disk);
+    }
+
     /// What the console line does in this turn: the receiver may take a key, then a character that is due is typed.
     #[tactic(auto, unfolding(crate::specs::Acts::bus_after_line))]
     fn line_acts(&mut self, turn: u64)
@@ -53,7 +65,7 @@ impl<A: Allocator> Unibus<A> {
         ensures written { self.new.written ≡ self.old.written }
     {
         self.typed.put(self.line.act(turn));
-        self.nearest = nearest(&self.line, &self.disk);
+        self.ahead = look_ahead(&self.clock, &self.line, &self.disk);
     }
 
     /// What the disk controller does in this turn: the transfer moves its sector where one is due, and seeks that are
@@ -68,7 +80,7 @@ impl<A: Allocator> Unibus<A> {
     {
         self.written.note_all(&self.disk.stores(turn));
         self.disk.act(turn, &mut self.memory);
-        self.nearest = nearest(&self.line, &self.disk);
+        self.ahead = look_ahead(&self.clock, &self.line, &self.disk);
     }
 
     /// Whether this turn comes before the nearest due turn, so that nothing that shows changes by the devices' acts.
@@ -81,8 +93,8 @@ impl<A: Allocator> Unibus<A> {
         self.rests(turn)
     }
 
-    /// What the devices do in this turn, each in its place: the receiver, the transmitter, the disk controller. It
-    /// wants an empty list of written words, and lists all words of memory to which a disk read may store.
+    /// What the devices do in this turn, each in its place: the line clock, the receiver, the transmitter, the disk
+    /// controller. It wants an empty list of written words, and lists all words of memory to which a disk read may store.
     #[tactic(auto, using(crate::proofs::DueLemmas::no_change_yet, crate::proofs::DueLemmas::no_store_yet, crate::proofs::Listing::nothing_changed))]
     #[inline]
     pub fn devices_act(&mut self, turn: u64)
@@ -100,7 +112,7 @@ impl<A: Allocator> Unibus<A> {
     }
 
     /// The same where a device may act in the turn.
-    #[tactic(auto, unfolding(crate::specs::Acts::bus_after_turn))]
+    #[tactic(auto, unfolding(crate::specs::Acts::bus_after_turn, crate::specs::Acts::bus_after_clock))]
     fn act(&mut self, turn: u64)
         requires turn { turn ≤ 2 ^ 62 }
         requires prepared { IsPreparedFor turn self.old.visible self.old.prepared }
@@ -110,6 +122,7 @@ impl<A: Allocator> Unibus<A> {
         ensures changed { ChangedOnly self.new.written self.old.visible.memory self.new.visible.memory }
     {
         the_acts_write_words_of_a_disk_read_alone();
+        self.clock_acts(turn);
         self.line_acts(turn);
         self.disk_acts(turn);
     }

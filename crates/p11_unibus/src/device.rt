@@ -45,7 +45,7 @@ pub trait Device {
 }
 
 impl Device for Kw11 {
-    ghost use Rattle.p11_kw11.specs.LineClock.{clock_after_init, register_at};
+    ghost use Rattle.p11_kw11.specs.LineClock.{clock_after_init, clock_after_turn, register_at};
 
     ghost addresses = { 0o777546 ∷ [] };
 
@@ -53,9 +53,9 @@ impl Device for Kw11 {
 
     ghost after_init = { clock_after_init };
 
-    ghost after_turn = { λ turn memory d. d };
+    ghost after_turn = { λ turn memory d. clock_after_turn turn d };
 
-    ghost due = { λ turn d. [] };
+    ghost due = { λ turn d. d.due ∷ [] };
 
     fn initialize(&mut self) {
         self.init();
@@ -64,6 +64,7 @@ impl Device for Kw11 {
     #[tactic(auto, unfolding(p11_kw11::specs::LineClock::register_at, crate::specs::Written::is_listed))]
     fn answers_its_own() {}
 
+    #[tactic(auto, unfolding(p11_kw11::specs::LineClock::clock_after_turn, p11_kw11::specs::LineClock::is_due))]
     fn is_due_later() {}
 
     #[tactic(auto, unfolding(p11_kw11::specs::LineClock::clock_after_init))]

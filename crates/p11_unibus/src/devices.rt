@@ -45,6 +45,10 @@ pub struct DriveShown {
 pub struct BusDevices {
     /// The line clock's status register.
     pub clock: u16,
+    /// From one tick of the line to the next of themselves there are so many turns; 0 where it doesn't tick so.
+    pub clock_period: u32,
+    /// The turn in which the line next ticks by itself.
+    pub clock_due: Option<u64>,
     /// RCSR, the receiver's status register.
     pub receiver_status: u16,
     /// RBUF, the receiver's buffer.
@@ -112,7 +116,16 @@ impl<A: Allocator> Unibus<A> {
     fn drives_shown(&self) -> [Option<DriveShown>; DRIVES]
         ensures { result ≡ drives_shown self.now.visible.disk }
     {
-        [self.drive_shown(0), self.drive_shown(1)]
+        [
+            self.drive_shown(0),
+            self.drive_shown(1),
+            self.drive_shown(2),
+            self.drive_shown(3),
+            self.drive_shown(4),
+            self.drive_shown(5),
+            self.drive_shown(6),
+            self.drive_shown(7),
+        ]
     }
 
     /// What the operator is shown of the devices, between this turn and the next. It has no effect.
@@ -124,6 +137,8 @@ impl<A: Allocator> Unibus<A> {
         let due = self.due(turn);
         BusDevices {
             clock: self.clock.read(),
+            clock_period: self.clock.period(),
+            clock_due: due.clock,
             receiver_status: self.line.peek(LineRegister::ReceiverStatus),
             receiver_buffer: self.line.peek(LineRegister::ReceiverBuffer),
             transmitter_status: self.line.peek(LineRegister::TransmitterStatus),

@@ -68,7 +68,7 @@ pub fn a_turn_in_which_no_device_acts_changes_nothing()
 {}
 
 /// The acts of a turn write no words of memory but those to which a disk read that is due stores.
-#[tactic(auto, unfolding(crate::specs::Acts::bus_after_turn, crate::specs::Acts::bus_after_line, crate::specs::Acts::bus_after_disk))]
+#[tactic(auto, unfolding(crate::specs::Acts::bus_after_turn, crate::specs::Acts::bus_after_clock, crate::specs::Acts::bus_after_line, crate::specs::Acts::bus_after_disk))]
 pub fn the_acts_write_words_of_a_disk_read_alone()
     ensures { (b : BusState) (turn : ℕ) → ChangedOnly (stores_of turn b.disk) b.memory (bus_after_turn turn b).memory }
 {

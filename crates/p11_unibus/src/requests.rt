@@ -2,7 +2,7 @@
 ghost use Rattle.std.specs.Prelude.{◌≡◌, true, None};
 ghost use Rattle.p11_unibus.specs.Requests.{bus_after_service, grant_of, highest_request, requests, stands};
 
-use crate::due::nearest;
+use crate::due::look_ahead;
 use crate::source::Source;
 use crate::unibus::Unibus;
 use p11_dl11::Section;
@@ -73,7 +73,7 @@ impl<A: Allocator> Unibus<A> {
             Source::Receiver => self.line.ack(Section::Receiver),
             Source::Transmitter => self.line.ack(Section::Transmitter),
         }
-        self.nearest = nearest(&self.line, &self.disk);
+        self.ahead = look_ahead(&self.clock, &self.line, &self.disk);
     }
 
     /// Grants the highest request above a priority, which drops it: the vector through which it interrupts.

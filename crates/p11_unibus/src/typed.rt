@@ -34,6 +34,7 @@ impl<A: Allocator + Copy> Typed<A> {
     pub(crate) fn take(&mut self) -> Vec<u8, A>
         ensures bytes { result.items ≡ self.old.bytes }
         ensures none { self.new.bytes ≡ [] }
+        ensures room { self.new.room ≡ 0 }
     {
         let alloc = *self.bytes.allocator();
         mem::replace(&mut self.bytes, Vec::new(alloc))

@@ -30,3 +30,18 @@ fn a_character_is_typed_in_the_last_turn(rt: HostRuntime) -> Result<(), Fail> {
     assert_eq!(rt; bus.next_due(LAST), None);
     Ok(())
 }
+
+#[test]
+fn the_line_ticks_in_the_last_turn(rt: HostRuntime) -> Result<(), Fail> {
+    let mut bus = Unibus::new(rt.alloc(), 4)?;
+    assert!(rt; bus.write(0, 0o777546, 0));
+    bus.set_period(LAST - 9, 9);
+    assert_eq!(rt; bus.next_due(LAST - 1), Some(LAST));
+    assert!(rt; bus.is_idle_in(LAST - 1));
+    assert_eq!(rt; bus.written_since().as_slice(), [].as_slice());
+    bus.prepare(LAST)?;
+    bus.devices_act(LAST);
+    assert_eq!(rt; bus.read(LAST, 0o777546), Some(0o200));
+    assert_eq!(rt; bus.next_due(LAST), Some(LAST + 9));
+    Ok(())
+}

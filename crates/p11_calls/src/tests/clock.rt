@@ -48,3 +48,25 @@ fn writes(rt: HostRuntime) {
     assert_eq!(rt; clock.read(), 0o200);
     assert!(rt; !clock.request());
 }
+
+/// The line ticks in its due turn alone, raises a request where it may, and is due again a period later.
+#[test]
+fn ticks_of_itself(rt: HostRuntime) {
+    let mut clock = Kw11::new();
+    assert_eq!(rt; clock.due(), None);
+    clock.write(0o100);
+    clock.set_period(4, 3);
+    assert_eq!(rt; clock.period(), 3);
+    assert_eq!(rt; clock.due(), Some(7));
+    clock.act(6);
+    assert_eq!(rt; clock.read(), 0o100);
+    clock.act(7);
+    assert_eq!(rt; clock.read(), 0o300);
+    assert!(rt; clock.request());
+    assert_eq!(rt; clock.due(), Some(10));
+    clock.init();
+    assert!(rt; !clock.request());
+    assert_eq!(rt; clock.due(), Some(10));
+    clock.set_period(8, 0);
+    assert_eq!(rt; clock.due(), None);
+}

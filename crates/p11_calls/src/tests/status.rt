@@ -1,4 +1,4 @@
-use p11_psw::{Mode, Priority, Psw, Vector};
+use p11_psw::{Mode, Priority, Psw, Vector, Zone, zone};
 use std::test::Fail;
 
 /// A word and the status that it says, at both ends of every field.
@@ -41,4 +41,28 @@ fn numbers_of_fields(rt: HostRuntime) -> Result<(), Fail> {
     assert!(rt; clock.is_above(Priority::Level5) && !clock.is_above(Priority::Level6));
     assert_eq!(rt; Vector::MemoryManagement.level(), None);
     Ok(())
+}
+
+/// The edges of the zones: at the least limit, 400, at another, and at the greatest, which is above every address.
+#[test]
+fn zones_by_register_and_stack_pointer(rt: HostRuntime) {
+    let cases = [
+        (0, 0o177776, Zone::Clear),
+        (0, 0o400, Zone::Clear),
+        (0, 0o377, Zone::Yellow),
+        (0, 0o340, Zone::Yellow),
+        (0, 0o337, Zone::Red),
+        (0, 0, Zone::Red),
+        (0o1000, 0o1400, Zone::Clear),
+        (0o1000, 0o1376, Zone::Yellow),
+        (0o1000, 0o1340, Zone::Yellow),
+        (0o1000, 0o1336, Zone::Red),
+        (0o177400, 0o177777, Zone::Yellow),
+        (0o177400, 0o177740, Zone::Yellow),
+        (0o177400, 0o177736, Zone::Red),
+        (0o177777, 0o177777, Zone::Red),
+    ];
+    for (register, sp, expected) in cases {
+        assert_eq!(rt; zone(register, sp), expected, "of {sp:o} with {register:o}");
+    }
 }

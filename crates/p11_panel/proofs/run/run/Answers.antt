@@ -1,7 +1,7 @@
-use Rattle.std.proofs.Common.{◌≡◌, false, true, arith, subst, sym, ap, ◌∙◌}
-use Rattle.p11_cpu.specs.State.{State}
+use Rattle.std.proofs.Common.{◌≡◌, false, true, arith, ap, sym, ◌∙◌}
+use Rattle.std.specs.Result.{is_err}
 use Rattle.p11_panel.specs.Runs.{stops_idling}
-use Rattle.p11_panel.proofs.RunLemmas.{no_turn, goes_is, one_more, halting_turn, all_made, no_memory, needs_by, idle_now}
+use Rattle.p11_panel.proofs.RunLemmas.{no_turn, one_more, halting_turn, all_made, no_memory, needs_by, idle_now}
 use Rattle.p11_panel.proofs.run.run.Goals as goal
 
 pub loop-made-init : goal.loop-made-init
@@ -12,30 +12,25 @@ returns-then-idles g c =
     let idle : stops_idling c.args.until_idle c.loop-made.machine.visible ≡ true = sym c.idles.ensures ∙ c.if-idles.true in
     idle_now (stops_idling c.args.until_idle) _ _ _ _ c.loop-made-test.true idle c.loop-made.invariant.goes
 
-pub returns-then-is_err : goal.returns-then-is_err
-returns-then-is_err g c =
+pub returns-in-Ok-Halted : goal.returns-in-Ok-Halted
+returns-in-Ok-Halted g c =
     let busy : stops_idling c.args.until_idle c.loop-made.machine.visible ≡ false = sym c.idles.ensures ∙ c.if-idles.false in
-    no_memory (stops_idling c.args.until_idle) _ _ _ c.loop-made.machine.visible c.prepare_turn.new.self.visible c.loop-made-test.true busy c.prepare_turn.ensures.visible
-    (needs_by _ c.prepare_turn.result c.prepare_turn.ensures.needless (sym c.if-is_err.ensures.value)) c.loop-made.invariant.goes
+    halting_turn (stops_idling c.args.until_idle) _ _ _ c.loop-made.machine.visible _ c.loop-made-test.true busy c.loop-made.invariant.goes
+    (rw c.in-Ok-Halted.field-0-is at c.in-Ok-Halted.ensures.ok)
 
-pub returns-in-Halted : goal.returns-in-Halted
-returns-in-Halted g c =
-    let idles = stops_idling c.args.until_idle in
-    let busy : idles c.loop-made.machine.visible ≡ false = sym c.idles.ensures ∙ c.if-idles.false in
-    let still : idles c.prepare_turn.new.self.visible ≡ false = subst (λ (x : State). idles x ≡ false) (sym c.prepare_turn.ensures.visible) busy in
-    halting_turn idles _ _ _ c.prepare_turn.new.self.visible _ c.loop-made-test.true still
-    (goes_is idles _ _ _ _ c.prepare_turn.new.self.visible c.prepare_turn.ensures.visible c.loop-made.invariant.goes) c.in-Halted.ensures.turn
+pub returns-in-Err : goal.returns-in-Err
+returns-in-Err g c =
+    let busy : stops_idling c.args.until_idle c.loop-made.machine.visible ≡ false = sym c.idles.ensures ∙ c.if-idles.false in
+    no_memory (stops_idling c.args.until_idle) _ _ _ c.loop-made.machine.visible c.try_turn.new.self.visible c.loop-made-test.true busy c.in-Err.ensures.err
+    (needs_by _ c.try_turn.result c.try_turn.ensures.needless (ap (λ r. is_err r) c.in-Err.is)) c.loop-made.invariant.goes
 
 pub loop-made-preserved : goal.loop-made-preserved
 loop-made-preserved g c =
-    let idles = stops_idling c.args.until_idle in
-    let busy : idles c.loop-made.machine.visible ≡ false = sym c.idles.ensures ∙ c.if-idles.false in
-    let still : idles c.prepare_turn.new.self.visible ≡ false = subst (λ (x : State). idles x ≡ false) (sym c.prepare_turn.ensures.visible) busy in
-    let turns : c.prepare_turn.new.self.visible.turns ≡ c.loop-made.machine.visible.turns = ap (λ (x : State). x.turns) c.prepare_turn.ensures.visible in
+    let busy : stops_idling c.args.until_idle c.loop-made.machine.visible ≡ false = sym c.idles.ensures ∙ c.if-idles.false in
     record {
-      turns = omega (arith, c.turn.ensures.count, turns, c.loop-made.invariant.turns);
-      goes = one_more idles _ _ _ c.prepare_turn.new.self.visible _ c.loop-made-test.true still
-          (goes_is idles _ _ _ _ c.prepare_turn.new.self.visible c.prepare_turn.ensures.visible c.loop-made.invariant.goes) c.in-Ran.ensures.turn;
+      turns = omega (arith, c.in-Ok-Ran.ensures.count, c.loop-made.invariant.turns);
+      goes = one_more (stops_idling c.args.until_idle) _ _ _ c.loop-made.machine.visible _ c.loop-made-test.true busy c.loop-made.invariant.goes
+          (rw c.in-Ok-Ran.field-0-is at c.in-Ok-Ran.ensures.ok);
     }
 
 pub returns : goal.returns

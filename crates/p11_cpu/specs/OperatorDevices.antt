@@ -8,10 +8,10 @@ use Rattle.p11_overlay.specs.Drive.{mounted}
 use Rattle.p11_unibus.specs.declared.devices.BusDevices.{BusDevices}
 use Rattle.p11_unibus.specs.Acts.{is_any_due}
 use Rattle.p11_unibus.specs.Devices.{devices_of}
-use Rattle.p11_unibus.specs.Events.{bus_after_key, bus_after_tick, bus_after_switches, bus_after_take, bus_after_mount, bus_after_unmount}
+use Rattle.p11_unibus.specs.Events.{bus_after_key, bus_after_period, bus_after_tick, bus_after_switches, bus_after_take, bus_after_mount, bus_after_unmount}
 use Rattle.p11_unibus.specs.Requests.{highest_request}
 use Rattle.p11_unibus.specs.State.{BusState}
-use Rattle.p11_cpu.specs.State.{State, HardwareState, with_bus}
+use Rattle.p11_cpu.specs.State.{State}
 
 -- whether no request stands above a priority
 abbrev pub no_request : Priority → BusState → Bool
@@ -29,10 +29,6 @@ take_typed_of s = record s { bus = bus_after_take s.bus }
 abbrev pub keyed : State → BusState × Result (Unit {0}) KeysFull → State × Result (Unit {0}) KeysFull
 keyed s (b, outcome) = (record s { bus = b }, outcome)
 
-abbrev pub hardware_keyed :
-    HardwareState → BusState × Result (Unit {0}) KeysFull → HardwareState × Result (Unit {0}) KeysFull
-hardware_keyed h (b, outcome) = (with_bus b h, outcome)
-
 -- a key is pressed, which is refused where as many wait as may
 unfoldable pub key_of : ℕ → State → State × Result (Unit {0}) KeysFull
 key_of key s = keyed s (bus_after_key key s.bus)
@@ -44,6 +40,10 @@ room_of s = receiver_room s.bus.line.receiver
 -- the line ticks
 unfoldable pub tick_of : State → State
 tick_of s = record s { bus = bus_after_tick s.bus }
+
+-- a period is set after which the line ticks by itself, again and again; from here on the turns are counted
+unfoldable pub set_period_of : ℕ → State → State
+set_period_of period s = record s { bus = bus_after_period s.turns period s.bus }
 
 -- the switches are set
 unfoldable pub set_switches_of : ℕ → State → State

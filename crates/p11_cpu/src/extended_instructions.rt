@@ -1,7 +1,7 @@
 ghost use Rattle.std.specs.Prelude.{◌≡◌};
+ghost use Rattle.p11_cpu.specs.ExtendedInstructions.{quotient_stored};
 ghost use Rattle.p11_cpu.specs.Instructions.{execute_of};
-ghost use Rattle.p11_cpu.specs.Moves.{odd_of, pair_of_registers, set_pair_of};
-ghost use Rattle.p11_cpu.specs.RegisterOperand.{quotient_stored};
+ghost use Rattle.p11_cpu.specs.Registers.{odd_of, pair_of_registers, set_pair_of};
 
 use crate::hardware::Hardware;
 use crate::trap::Trap;
@@ -24,7 +24,7 @@ fn low_half(register: Register) -> Register
 
 impl<A: Allocator> Hardware<A> {
     /// A register and the next one, or an odd register twice.
-    #[tactic(auto, unfolding(crate::specs::Moves::pair_of_registers))]
+    #[tactic(auto, unfolding(crate::specs::Registers::pair_of_registers))]
     fn pair(&self, register: Register) -> Pair
         ensures { result ≡ pair_of_registers register self.now }
     {
@@ -35,7 +35,7 @@ impl<A: Allocator> Hardware<A> {
     }
 
     /// Sets a register and the next one, or an odd register to the low half.
-    #[tactic(auto, unfolding(crate::specs::Moves::set_pair_of))]
+    #[tactic(auto, unfolding(crate::specs::Registers::set_pair_of))]
     fn set_pair(&mut self, register: Register, pair: Pair)
         ensures { self.new ≡ set_pair_of register pair self.old }
     {
@@ -44,7 +44,7 @@ impl<A: Allocator> Hardware<A> {
     }
 
     /// Stores a quotient that fits, and its remainder.
-    #[tactic(auto, unfolding(crate::specs::RegisterOperand::quotient_stored))]
+    #[tactic(auto, unfolding(crate::specs::ExtendedInstructions::quotient_stored))]
     fn store_quotient(&mut self, register: Register, quotient: Quotient)
         ensures { self.new ≡ quotient_stored register quotient self.old }
     {
@@ -58,7 +58,7 @@ impl<A: Allocator> Hardware<A> {
     }
 
     /// MUL.
-    #[tactic(auto, unfolding(crate::specs::Instructions::moves_of))]
+    #[tactic(auto, unfolding(crate::specs::Instructions::execute_of, crate::specs::Operands::value_of))]
     pub fn mul(
         &mut self,
         turn: TurnNumber,
@@ -76,7 +76,7 @@ impl<A: Allocator> Hardware<A> {
     }
 
     /// DIV.
-    #[tactic(auto, unfolding(crate::specs::Instructions::moves_of))]
+    #[tactic(auto, unfolding(crate::specs::Instructions::execute_of, crate::specs::Operands::value_of))]
     pub fn div(
         &mut self,
         turn: TurnNumber,
@@ -94,7 +94,7 @@ impl<A: Allocator> Hardware<A> {
     }
 
     /// ASH.
-    #[tactic(auto, unfolding(crate::specs::Instructions::moves_of))]
+    #[tactic(auto, unfolding(crate::specs::Instructions::execute_of, crate::specs::Operands::value_of))]
     pub fn ash(
         &mut self,
         turn: TurnNumber,
@@ -112,7 +112,7 @@ impl<A: Allocator> Hardware<A> {
     }
 
     /// ASHC.
-    #[tactic(auto, unfolding(crate::specs::Instructions::moves_of))]
+    #[tactic(auto, unfolding(crate::specs::Instructions::execute_of, crate::specs::Operands::value_of))]
     pub fn ashc(
         &mut self,
         turn: TurnNumber,

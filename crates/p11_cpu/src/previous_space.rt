@@ -1,6 +1,6 @@
 ghost use Rattle.std.specs.Prelude.{◌≡◌};
 ghost use Rattle.p11_cpu.specs.Instructions.{execute_of};
-ghost use Rattle.p11_cpu.specs.Spaces.{read_previous_of, write_previous_of};
+ghost use Rattle.p11_cpu.specs.PreviousSpace.{read_previous_of, write_previous_of};
 
 use crate::hardware::Hardware;
 use crate::operand::Place;
@@ -12,7 +12,7 @@ use std::alloc::Allocator;
 
 impl<A: Allocator> Hardware<A> {
     /// The word at a place in the previous mode.
-    #[tactic(auto, unfolding(crate::specs::Spaces::read_previous_of))]
+    #[tactic(auto, unfolding(crate::specs::PreviousSpace::read_previous_of))]
     fn read_previous(&mut self, turn: TurnNumber, place: Place) -> Result<u16, Trap>
         ensures { read_previous_of place turn self.old ≡ (self.new, result) }
     {
@@ -26,7 +26,7 @@ impl<A: Allocator> Hardware<A> {
     }
 
     /// Writes the word at a place in the previous mode.
-    #[tactic(auto, unfolding(crate::specs::Spaces::write_previous_of))]
+    #[tactic(auto, unfolding(crate::specs::PreviousSpace::write_previous_of))]
     fn write_previous(&mut self, turn: TurnNumber, place: Place, word: u16) -> Result<(), Trap>
         ensures { write_previous_of place word turn self.old ≡ (self.new, result) }
     {
@@ -43,7 +43,7 @@ impl<A: Allocator> Hardware<A> {
     }
 
     /// MFPI.
-    #[tactic(auto, unfolding(crate::specs::Instructions::moves_of))]
+    #[tactic(auto, unfolding(crate::specs::Instructions::execute_of))]
     pub fn mfpi(&mut self, turn: TurnNumber, operand: Operand) -> Result<(), Trap>
         ensures { execute_of (Op.Mfpi operand) turn self.old ≡ (self.new, result) }
     {
@@ -51,12 +51,12 @@ impl<A: Allocator> Hardware<A> {
         let word = self.read_previous(turn, source)?;
         let top = self.step_down(turn, Register::Sp, 2)?;
         self.set_codes(logic(Width::Word, word, self.codes().c));
-        self.write_place(turn, Size::Word, Place::Memory(top), word)?;
+        self.write(turn, Size::Word, top, word)?;
         Ok(())
     }
 
     /// MTPI.
-    #[tactic(auto, unfolding(crate::specs::Instructions::moves_of))]
+    #[tactic(auto, unfolding(crate::specs::Instructions::execute_of))]
     pub fn mtpi(&mut self, turn: TurnNumber, operand: Operand) -> Result<(), Trap>
         ensures { execute_of (Op.Mtpi operand) turn self.old ≡ (self.new, result) }
     {
