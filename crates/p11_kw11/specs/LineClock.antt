@@ -11,7 +11,7 @@ pub record LineClock : Type 0 where
   pub enable : Bool
   -- an interrupt is requested
   pub request : Bool
-  -- from one tick to the next of themselves there are so many turns; with 0 the line doesn't tick by itself
+  -- how many turns lie between two ticks that the line makes by itself; with 0 it makes none
   pub period : ℕ
   -- the turn in which the line next ticks by itself, if it does
   pub due : Option ℕ
@@ -32,7 +32,8 @@ bit_of word weight = word / weight % 2 == 1
 unfoldable pub new_clock : LineClock
 new_clock = record { monitor = true; enable = false; request = false; period = 0; due = None }
 
--- INIT: monitor set, interrupts disabled, no request. When the line ticks is no business of the bus, and stays.
+-- INIT: monitor set, interrupts disabled, no request. The period and the due turn stay, since INIT reaches the clock
+-- and not the line that it counts.
 unfoldable pub clock_after_init : LineClock → LineClock
 clock_after_init k = record k { monitor = true; enable = false; request = false }
 

@@ -17,7 +17,7 @@ pub struct Kw11 {
     monitor: bool,
     enable: bool,
     request: bool,
-    /// From one tick to the next there are so many turns, and with 0 the line doesn't tick by itself.
+    /// How many turns lie between two ticks that the line makes by itself; with 0 it makes none.
     period: u32,
     /// The turn in which the line next ticks by itself.
     due: Option<u64>,
@@ -173,7 +173,7 @@ impl Kw11 {
         }
     }
 
-    /// From one tick to the next there are so many turns, and with 0 the line doesn't tick by itself.
+    /// How many turns lie between two ticks that the line makes by itself; with 0 it makes none.
     pub fn period(&self) -> u32
         ensures { result ≡ self.now.period }
     {

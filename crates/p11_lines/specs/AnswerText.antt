@@ -144,8 +144,8 @@ requests_text r =
 
 abbrev pub devices_text : Devices → List ℕ
 devices_text d =
-    clock_text d.clock.status d.clock.period d.clock.due ++ (line_words_text d.line ++ line_waits_text d.line) ++ disk_text d.disk
-    ++ drives_text 0 d.drives ++ management_text d.management ++ requests_text d.requests
+    clock_text d.clock.status d.clock.period d.clock.due ++ (line_words_text d.line ++ line_waits_text d.line)
+    ++ disk_text d.disk ++ drives_text 0 d.drives ++ management_text d.management ++ requests_text d.requests
 
 -- ` d` for each number
 abbrev pub numbers_text : List ℕ → List ℕ

@@ -1,5 +1,5 @@
 //! What the devices on the bus do in a turn, and the memory that they need for it. A turn before the nearest due one
-//! asks no device.
+//! asks no device, and one in which the clock alone is due asks no other.
 ghost use Rattle.std.specs.Prelude.{◌≡◌, ◌<◌, ◌≤◌, ◌^◌, [], true, false, OnOk, IsOk};
 ghost use Rattle.p11_rk11.specs.Acts.{stores_of};
 ghost use Rattle.p11_rk11.specs.View as disks;
@@ -8,7 +8,7 @@ ghost use Rattle.p11_unibus.specs.Due.{comes_before, nearest_of};
 ghost use Rattle.p11_unibus.specs.Prepared.{IsPreparedFor, disk_view, needs_memory, types_in};
 ghost use Rattle.p11_unibus.specs.Written.{ChangedOnly};
 
-use crate::due::look_ahead;
+use crate::due::{look_ahead, look_from};
 use crate::laws::the_acts_write_words_of_a_disk_read_alone;
 use crate::unibus::Unibus;
 use std::alloc::{AllocError, Allocator};
@@ -24,13 +24,13 @@ impl<A: Allocator> Unibus<A> {
         ensures needless { needs_memory turn self.old.visible ≡ false → IsOk result }
         ensures written { self.new.written ≡ self.old.written }
     {
-        if self.rests(turn) {
+        if self.rests_but_clock(turn) {
             return Ok(());
         }
         self.find_memory(turn)
     }
 
-    /// The same where a device may act in the turn.
+    /// The same where the console line or the disk controller may act in the turn. The line clock needs no memory.
     #[tactic(auto, unfolding(crate::specs::Prepared::needs_memory))]
     fn find_memory(&mut self, turn: u64) -> Result<(), AllocError>
         requires { turn ≤ 2 ^ 62 }
@@ -51,8 +51,9 @@ impl<A: Allocator> Unibus<A> {
         ensures prepared { self.new.prepared ≡ self.old.prepared }
         ensures written { self.new.written ≡ self.old.written }
     {
+        let but_clock = self.nearest_but_clock();
         self.clock.act(turn);
-        self.ahead = look_ahead(&self.clock, &self.line, &self.disk);
+        self.ahead = look_from(but_clock, &self.clock, &self.line, &self.disk);
     }
 
     /// What the console line does in this turn: the receiver may take a key, then a character that is due is typed.
@@ -81,6 +82,35 @@ impl<A: Allocator> Unibus<A> {
         self.written.note_all(&self.disk.stores(turn));
         self.disk.act(turn, &mut self.memory);
         self.ahead = look_ahead(&self.clock, &self.line, &self.disk);
+    }
+
+    /// What the console line and then the disk controller do in this turn.
+    #[tactic(auto, unfolding(crate::specs::Acts::bus_after_line))]
+    fn line_and_disk_act(&mut self, turn: u64)
+        requires turn { turn ≤ 2 ^ 62 }
+        requires prepared { IsPreparedFor turn self.old.visible self.old.prepared }
+        requires nothing { self.old.written ≡ [] }
+        ensures state { self.new.visible ≡ bus_after_disk turn (bus_after_line turn self.old.visible) }
+        ensures written { self.new.written ≡ stores_of turn self.old.visible.disk }
+    {
+        self.line_acts(turn);
+        self.disk_acts(turn);
+    }
+
+    /// The same. A turn before their nearest due one asks neither.
+    #[tactic(auto, using(crate::proofs::DueLemmas::no_other_change_yet, crate::proofs::DueLemmas::no_other_store_yet))]
+    #[inline]
+    fn others_act(&mut self, turn: u64)
+        requires turn { turn ≤ 2 ^ 62 }
+        requires prepared { IsPreparedFor turn self.old.visible self.old.prepared }
+        requires nothing { self.old.written ≡ [] }
+        ensures state { self.new.visible ≡ bus_after_disk turn (bus_after_line turn self.old.visible) }
+        ensures written { self.new.written ≡ stores_of turn self.old.visible.disk }
+    {
+        if self.rests_but_clock(turn) {
+            return;
+        }
+        self.line_and_disk_act(turn);
     }
 
     /// Whether this turn comes before the nearest due turn, so that nothing that shows changes by the devices' acts.
@@ -123,7 +153,6 @@ impl<A: Allocator> Unibus<A> {
     {
         the_acts_write_words_of_a_disk_read_alone();
         self.clock_acts(turn);
-        self.line_acts(turn);
-        self.disk_acts(turn);
+        self.others_act(turn);
     }
 }

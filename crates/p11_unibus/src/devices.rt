@@ -45,7 +45,7 @@ pub struct DriveShown {
 pub struct BusDevices {
     /// The line clock's status register.
     pub clock: u16,
-    /// From one tick of the line to the next of themselves there are so many turns; 0 where it doesn't tick so.
+    /// How many turns lie between two ticks that the line makes by itself; with 0 it makes none.
     pub clock_period: u32,
     /// The turn in which the line next ticks by itself.
     pub clock_due: Option<u64>,
