@@ -1,21 +1,19 @@
 // The store of files that the program has: those of the system, whose names are paths from the working folder on.
 ghost use Rattle.std.specs.Prelude.{◌≡◌, ◌+◌, ◌<◌, None};
 
+use crate::replacing::replace_file;
 use p11_panel::{Refusals, Store, StoreError};
 use std::alloc::Allocator;
 use std::fs::File;
-use std::io::{ErrorKind, Read, Write};
+use std::io;
+use std::io::{ErrorKind, Read};
 use std::sync::ledger::{Blank, Ledger};
-use std::{fs, io};
 
 /// Reads in one fetch at most, the one that finds the file's end among them.
 const MOST_READS: u32 = 4096;
 
 /// Bytes of one read at most.
 const READ_BYTES: usize = 4096;
-
-/// How many names are tried for a new file.
-const MOST_NAMES: u32 = 16;
 
 /// The files of the system. None of them is open between two calls.
 #[derive(Drop)]
@@ -106,47 +104,4 @@ fn read_more<A: Allocator>(file: &mut File, bytes: &mut Vec<u8, A>) -> Result<bo
         },
         Err(error) => Err(fault(&error)),
     }
-}
-
-/// Leaves these bytes under a name: they are written to a new file beside it, which then takes its place. So what was
-/// there stays whole where they can't be written. Only a file is replaced, and no folder or device.
-fn replace_file(rt: &HostRuntime, name: &[u8], bytes: &[u8]) -> io::Result<()> {
-    let Ok(path) = str::from_utf8(name) else {
-        return Err(io::Error::from(ErrorKind::InvalidInput));
-    };
-    if let Ok(there) = fs::metadata(rt, path)
-        && !there.is_file()
-    {
-        return Err(io::Error::from(ErrorKind::AlreadyExists));
-    }
-    let (new, file) = new_file(rt, path)?;
-    let written = write_whole(file, bytes);
-    if written.is_ok() && fs::rename(rt, new.as_str(), path).is_ok() {
-        return Ok(());
-    }
-    let _ = fs::remove_file(rt, new.as_str());
-    Err(io::Error::from(ErrorKind::Other))
-}
-
-/// A new file in the folder of this path, and its own path.
-fn new_file(rt: &HostRuntime, path: &str) -> io::Result<(String, File)> {
-    let (folder, slash) = match path.rsplit_once('/') {
-        Some((folder, _)) => (folder, "/"),
-        None => ("", ""),
-    };
-    for number in 0..MOST_NAMES {
-        let new = format!(in rt.alloc(); "{folder}{slash}.p11-{number}")?;
-        match File::create_new(rt, new.as_str()) {
-            Ok(file) => return Ok((new, file)),
-            Err(error) if error.kind() == ErrorKind::AlreadyExists => {}
-            Err(error) => return Err(error),
-        }
-    }
-    Err(io::Error::from(ErrorKind::AlreadyExists))
-}
-
-/// Writes these bytes and nothing else to a new file, and closes it.
-fn write_whole(mut file: File, bytes: &[u8]) -> io::Result<()> {
-    file.write_all(bytes)?;
-    file.sync_all()
 }

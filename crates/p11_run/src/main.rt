@@ -8,15 +8,17 @@ ghost use Rattle.std.specs.Prelude.{◌≡◌, ◌<◌};
 
 mod ending;
 mod file_store;
+mod replacing;
+mod script_reader;
 mod settings;
 #[cfg(test)]
 mod tests;
 
 use crate::ending::{Cause, ending, ending_after};
 use crate::file_store::FileStore;
+use crate::script_reader::ScriptReader;
 use crate::settings::{Launch, settings};
-use p11_panel::{Panel, SessionFault, session};
-use std::fs::File;
+use p11_panel::{Panel, session};
 use std::marker::Brand;
 use std::process::ExitCode;
 use std::sync::ledger::{Blank, Ledger};
@@ -79,9 +81,7 @@ fn run_counted<L: Ledger>(rt: &HostRuntime, launch: &Launch<'_>, blank: Blank) -
 {
     let mut panel = Panel::new(rt.alloc(), launch.config)?;
     let mut store = FileStore::<L>::new(rt, blank);
-    let Ok(mut script) = File::open(rt, launch.script) else {
-        return Err(Cause::Session(SessionFault::Reading));
-    };
+    let mut script = ScriptReader::open(rt, launch)?;
     session(
         rt.alloc(),
         &mut panel,

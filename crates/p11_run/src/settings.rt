@@ -1,4 +1,4 @@
-ghost use Rattle.std.specs.Prelude.{◌≡◌, ℕ, Option, IfOk, IfErr, map, option_map, codes, false};
+ghost use Rattle.std.specs.Prelude.{◌≡◌, ◌↔◌, ℕ, Option, IsTrue, IfOk, IfErr, map, option_map, codes, false};
 ghost use Rattle.std.specs.String.{string_bytes};
 ghost use Rattle.clap.specs.Words.{app_of, found_of, rows_of, rule_of};
 ghost use Rattle.clap.specs.declared.builder.value_parser.ValueParser.TheVariants.{Unsigned};
@@ -16,8 +16,17 @@ use std::alloc::{AllocError, Global};
 #[derive(Debug, Drop)]
 pub struct Launch<'a> {
     pub config: Config,
-    /// The name of the script's file.
+    /// The name of the script's file, or `-`.
     pub script: &'a str,
+}
+
+impl<'a> Launch<'a> {
+    /// Whether the script is what comes on standard input.
+    pub fn is_from_standard_input(&self) -> bool
+        ensures { IsTrue result ↔ (self.now.script.now ≡ codes "-") }
+    {
+        self.script == "-"
+    }
 }
 
 /// What the words of a command line give: the numbers, where they are given, and the script's name.
@@ -59,7 +68,7 @@ fn script<'a>(alloc: Global) -> Arg<'a>
 {
     Arg::new(alloc, "SCRIPT")
         .required(true)
-        .help("The operator's script")
+        .help("The operator's script; - is standard input")
 }
 
 /// The program, without its arguments.

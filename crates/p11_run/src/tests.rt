@@ -1,3 +1,4 @@
 // What the program answers to command lines, and its store of files.
 mod command_line;
 mod files;
+mod replacing;

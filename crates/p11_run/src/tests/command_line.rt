@@ -6,11 +6,12 @@ use std::alloc::{AllocError, Global};
 use std::test::Fail;
 
 /// Command lines that are taken, thousands of words of memory, the number of decoded words, and the script.
-static TAKEN: [(&str, u32, u32, &str); 4] = [
+static TAKEN: [(&str, u32, u32, &str); 5] = [
     ("boot.p11", 28, 1024, "boot.p11"),
     ("--memory 8 boot.p11", 8, 1024, "boot.p11"),
     ("boot.p11 --lines 0", 28, 0, "boot.p11"),
     ("--lines=4096 --memory=124 x", 124, 4096, "x"),
+    ("--memory 8 -", 8, 1024, "-"),
 ];
 
 /// Command lines that end the program, its status, and how what is said begins.
@@ -82,6 +83,7 @@ fn a_command_line_gives_sizes_and_a_script(rt: HostRuntime) -> Result<(), Fail> 
             "{line}"
         );
         assert_eq!(rt; launch.script, script);
+        assert_eq!(rt; launch.is_from_standard_input(), script == "-");
     }
     Ok(())
 }
