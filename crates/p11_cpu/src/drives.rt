@@ -16,7 +16,7 @@ impl<A: Allocator> Hardware<A> {
         requires empty { is_some (drive_of self.old.bus.disk n) ≡ false }
         ensures { self.new ≡ with_bus (bus_after_mount n drive.contents self.old.bus) self.old }
     {
-        self.ready = None;
+        self.ready.forget();
         self.bus.mount(n, drive);
     }
 
@@ -27,7 +27,7 @@ impl<A: Allocator> Hardware<A> {
         requires idle { is_busy n self.old.bus.disk ≡ false }
         ensures { self.new ≡ with_bus (bus_after_unmount n self.old.bus) self.old }
     {
-        self.ready = None;
+        self.ready.forget();
         self.bus.unmount(n);
     }
 

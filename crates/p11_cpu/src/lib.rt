@@ -19,6 +19,7 @@ mod previous_space;
 mod processor_control;
 mod program_control;
 mod quiet;
+mod ready;
 mod references;
 mod registers;
 mod service;

@@ -1,4 +1,5 @@
-ghost use Rattle.std.specs.Prelude.{◌≡◌, ◌==◌};
+ghost use Rattle.std.specs.Prelude.{◌≡◌, ◌==◌, ◌<◌};
+ghost use Rattle.p11_cpu.specs.declared.part.Part.TheVariants as parts;
 ghost use Rattle.p11_cpu.specs.References.{limit_address, part_at, status_address};
 
 use p11_kt11::Kt11;
@@ -8,6 +9,9 @@ const STATUS_ADDRESS: u32 = 0o777776;
 
 /// The bus address of the stack limit register.
 const LIMIT_ADDRESS: u32 = 0o777774;
+
+/// The lowest bus address at which a register of the processor or of memory management stands.
+const FIRST_ADDRESS: u32 = 0o772300;
 
 /// What answers at a bus address.
 #[derive(Clone, Copy, Debug, PartialEq, Eq)]
@@ -39,14 +43,23 @@ fn is_limit(address: u32) -> bool
 }
 
 impl Part {
-    /// The one that answers at a bus address. Memory management is asked first, so that one comparison finds memory on
-    /// the bus.
+    /// Below the I/O page is the bus alone. The call does nothing.
+    #[tactic(auto, unfolding(crate::specs::References::part_at, p11_kt11::specs::Registers::answers, p11_kt11::specs::Register::register_at, p11_kt11::specs::Register::page_from))]
+    #[inline(always)]
+    pub fn is_the_bus_below_the_io_page(_address: u32)
+        requires { _address < 0o760000 }
+        ensures { part_at _address ≡ parts.Bus }
+    {}
+
+    /// The one that answers at a bus address. One comparison finds memory on the bus.
     #[tactic(auto, unfolding(crate::specs::References::part_at, p11_kt11::specs::Registers::answers, p11_kt11::specs::Register::register_at, p11_kt11::specs::Register::page_from))]
     #[inline(always)]
     pub fn at(address: u32) -> Part
         ensures { result ≡ part_at address }
     {
-        if Kt11::answers(address) {
+        if address < FIRST_ADDRESS {
+            Part::Bus
+        } else if Kt11::answers(address) {
             Part::Management
         } else if is_status(address) {
             Part::Status

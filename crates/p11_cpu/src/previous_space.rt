@@ -49,7 +49,7 @@ impl<A: Allocator> Hardware<A> {
     {
         let source = self.find_place(turn, Size::Word, operand)?;
         let word = self.read_previous(turn, source)?;
-        let top = self.step_down(turn, Register::Sp, 2)?;
+        let top = self.step_down(Register::Sp, 2)?;
         self.set_codes(logic(Width::Word, word, self.codes().c));
         self.write(turn, Size::Word, top, word)?;
         Ok(())

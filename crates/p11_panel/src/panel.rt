@@ -13,9 +13,15 @@ use std::alloc::{Allocator, Global};
 use std::marker::Model;
 
 /// A machine under an operator. A contract sees the machine's whole state.
-#[derive(Drop)]
 pub struct Panel<A: Allocator = Global> {
     pub(crate) machine: Machine<A>,
+}
+
+// Written out, so that a value that ends is one call in whatever function holds it, and not a drop of each field there.
+impl<A: Allocator> Drop for Panel<A> {
+    fn drop(self) {
+        let Panel { machine } = self;
+    }
 }
 
 impl<A: Allocator> Model for Panel<A> {

@@ -7,7 +7,7 @@ use std::alloc::{Allocator, Global};
 use std::marker::Model;
 
 /// The drives, each empty or with a pack mounted.
-#[derive(Debug, Drop)]
+#[derive(Debug)]
 pub(crate) struct Drives<A: Allocator = Global> {
     first: Option<Mounted<A>>,
     second: Option<Mounted<A>>,
@@ -17,6 +17,22 @@ pub(crate) struct Drives<A: Allocator = Global> {
     sixth: Option<Mounted<A>>,
     seventh: Option<Mounted<A>>,
     eighth: Option<Mounted<A>>,
+}
+
+// Written out, so that a value that ends is one call in whatever function holds it, and not a drop of each field there.
+impl<A: Allocator> Drop for Drives<A> {
+    fn drop(self) {
+        let Drives {
+            first,
+            second,
+            third,
+            fourth,
+            fifth,
+            sixth,
+            seventh,
+            eighth,
+        } = self;
+    }
 }
 
 impl<A: Allocator> Model for Drives<A> {
