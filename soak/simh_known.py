@@ -46,7 +46,9 @@ def had_fatal(ours):
 
 
 def is_fatal(case, ours, theirs, fields):
-    return theirs["stop"].endswith("abort") and had_fatal(ours)
+    # where it fails too, the machine halts with PC and status as they were
+    failed = ours["stop"] == "halt" and ours["KSP"] in ("000000", "000002", "000004") and not {"PC", "PSW"} & {*fields}
+    return theirs["stop"].endswith("abort") and (had_fatal(ours) or failed)
 
 
 def at_the_end(case, ours, theirs, fields):
@@ -113,7 +115,12 @@ def without_pages(case, ours, theirs, fields):
 
 
 def reaches_limit(case, ours, theirs, fields):
-    return any(0o177772 <= word for word in case.registers[:6]) and "002002" in (ours["PC"], theirs["PC"])
+    general = case.registers[:6]
+    behind = [case.memory.get(case.registers[8] + step, 0) for step in (2, 4)]
+    words = [*general, *(case.memory.get(word - step, 0) for word in general for step in (0, 2)),
+             *behind, *((word + more) % 65536 for word in general for more in behind)]
+    trapped = "002002" in (ours["PC"], theirs["PC"]) or theirs["stop"].endswith("abort")
+    return any(0o177772 <= word for word in words) and trapped
 
 
 KNOWN = [
