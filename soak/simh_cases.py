@@ -120,8 +120,13 @@ class Maker:
             bits, more = self.operand(at + 2 + 2 * len(words))
             return [self.pick(DOUBLE) + source * 0o100 + bits] + words + more
         if group == "register":
+            register = self.random.randrange(8)
+            if register < 6 and self.chance(0.6):
+                # numbers of which many quotients and products fit
+                self.general[register] = self.pick([0, 0, 0o177777, self.word(), self.random.randrange(64)])
+                self.general[register // 2 * 2 + 1] = self.word() if register % 2 == 0 else self.general[register]
             bits, words = self.operand(at + 2)
-            return [self.pick(REGISTER) + 0o100 * self.random.randrange(8) + bits] + words
+            return [self.pick(REGISTER) + 0o100 * register + bits] + words
         if group in ("jump", "call"):
             bits, words = self.place_to_go(at + 2)
             code = 0o100 if group == "jump" else 0o4000 + 0o100 * self.random.randrange(8)

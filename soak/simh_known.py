@@ -90,7 +90,8 @@ def at_the_limit(case, ours, theirs, fields):
     if other >= 0o400:
         return set()
     # the second service of SIMH finds no stack
-    if had_fatal(ours) and not stopped(theirs) or case.registers[6] <= 6 and stack <= 2 and stopped(theirs):
+    stuck = stopped(theirs) and stack < 0o400 and (ours["PC"] in HANDLED or case.registers[6] <= 6)
+    if stuck and not had_fatal(ours) or had_fatal(ours) and not stopped(theirs):
         return fields
     frame = {"KSP", "PC", "PSW", "777576", f"{other:06o}", f"{other + 2:06o}"}
     return {name for name in fields if name in frame or is_page(name)} if other == stack - 4 else set()
@@ -142,22 +143,27 @@ def without_pages(case, ours, theirs, fields):
     return fields & {"777572"} if octal(ours, "777572") >> 5 & 3 in (1, 2) else set()
 
 
-def reaches_limit(case, ours, theirs, fields):
-    general = case.registers[:6]
+def may_reach(case, first, last):
+    """Whether an operand may lie from the first to the last address: in a register, by a pointer, or by an index."""
+    general = case.registers[:8]
     behind = [case.memory.get(case.registers[8] + step, 0) for step in (2, 4)]
     words = [*general, *(case.memory.get(word - step, 0) for word in general for step in (0, 2)),
              *behind, *((word + more) % 65536 for word in general for more in behind)]
+    return any(first <= word <= last for word in words)
+
+
+def reaches_limit(case, ours, theirs, fields):
     trapped = FAULT in (ours["PC"], theirs["PC"]) or stopped(theirs) or "KSP" in fields
-    return fields if any(0o177772 <= word for word in words) and trapped else set()
+    return fields if may_reach(case, 0o177772, 0o177777) and trapped else set()
 
 
 def reaches_sr1(case, ours, theirs, fields):
-    near = any(0o177570 <= word <= 0o177602 for word in case.registers[:8])
+    near = any(0o177570 <= word <= 0o177602 for word in case.registers[:8]) or may_reach(case, 0o177574, 0o177575)
     return fields if near and FAULT in (ours["PC"], theirs["PC"]) else set()
 
 
-def runs_disk(case, ours, theirs, fields):
-    return fields if 0o177400 < octal(ours, "PC") <= 0o177416 else set()
+def reads_disk(case, ours, theirs, fields):
+    return fields if may_reach(case, 0o177400, 0o177402) or 0o177400 < octal(ours, "PC") <= 0o177402 else set()
 
 
 def is_foreign(case, ours, theirs, fields):
@@ -187,8 +193,8 @@ KNOWN = [
     Known("the stack limit register", "it answers at 777774; SIMH's 11/40 hasn't got it", reaches_limit),
     Known("SR1", "nothing answers at 777574, since the KT11-D has SR0 and SR2 alone; SIMH's 11/40 has SR1",
           reaches_sr1),
-    Known("RKDS as an instruction", "the status of an empty drive is 0 but for bits 15:13, which is a HALT; SIMH's is"
-          " another word", runs_disk),
+    Known("RKDS of an empty drive", "it is 0 but for bits 15:13, as an operand or as an instruction; SIMH's is another"
+          " word", reads_disk),
 ]
 
 
