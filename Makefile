@@ -16,7 +16,7 @@ install: all
 	install -d '$(DESTDIR)$(PREFIX)/bin' '$(SHARE)/man/man1' '$(SHARE)/doc/p11/examples'
 	install crates/p11_run/out/p11_run '$(DESTDIR)$(PREFIX)/bin/p11'
 	install -m 644 docs/p11.1 '$(SHARE)/man/man1'
-	install -m 644 examples/* '$(SHARE)/doc/p11/examples'
+	cp examples/* '$(SHARE)/doc/p11/examples'
 
 include crates.txt
 
