@@ -125,21 +125,26 @@ class Sources:
 
     def named(self, text, scope):
         """What a text names."""
+        return set(self.meant(text, scope).values())
+
+    def meant(self, text, scope):
+        """The definition or declared type that each name in a text stands for, as the text has the name."""
         local, names, modules = scope
-        found = set()
+        found = {}
         for word in NAME.findall(text):
             head, _, rest = word.partition(".")
             if head in local:
-                found.add(local[head])
+                found[head] = local[head]
             elif head in names:
-                found.add(self.at(*names[head]))
+                found[head] = self.at(*names[head])
             elif head in modules and rest:
-                found.add(self.at(modules[head], rest.split(".")[0]))
+                name = rest.split(".")[0]
+                found[f"{head}.{name}"] = self.at(modules[head], name)
         for word in [*local, *names]:
             sign = word.strip("◌")
             if word.startswith("◌") and (sign in text or sign == ">>=" and re.search(r"\bdo\b", text)):
-                found.add(local[word] if word in local else self.at(*names[word]))
-        return found - {None}
+                found[word] = local[word] if word in local else self.at(*names[word])
+        return {word: key for word, key in found.items() if key is not None}
 
     def reached(self, begin):
         done, todo = set(), list(begin)
