@@ -1,9 +1,18 @@
 -- How the program ends: its exit status, and what it says.
 use Rattle.std.specs.Prelude.{ℕ, Bool, true, false, ◌&&◌, not, List, [], codes, if◌then◌else◌}
 use Rattle.std.specs.String.{string_bytes}
+use Rattle.p11_arguments.specs.declared.arguments.Unasked.{Unasked}
+use Rattle.p11_arguments.specs.declared.arguments.Unasked.TheVariants as reasons
 use Rattle.p11_panel.specs.declared.script.SessionFault.TheVariants.{Reading, Writing, TooLong}
 use Rattle.p11_run.specs.declared.ending.Cause.{Cause}
 use Rattle.p11_run.specs.declared.ending.Cause.TheVariants.{Done, Help, Usage, NotUtf8, BadSize, NoMemory, Session}
+
+-- the ending of a command line that names no script
+abbrev pub cause_of : Unasked → Cause
+cause_of (reasons.Help text) = Help text
+cause_of (reasons.Usage text) = Usage text
+cause_of reasons.BadNumber = BadSize
+cause_of reasons.NoMemory = NoMemory
 
 -- 0: the end of the script, or help; 1: a fault of the session; 2: a command line that is refused; 3: no memory
 abbrev pub status_of : Cause → ℕ

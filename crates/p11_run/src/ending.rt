@@ -1,7 +1,8 @@
 ghost use Rattle.std.specs.Prelude.{◌≡◌};
-ghost use Rattle.p11_run.specs.Endings.{status_of, text_of, status_after, text_after};
+ghost use Rattle.p11_run.specs.Endings.{cause_of, status_of, text_of, status_after, text_after};
 ghost use Rattle.p11_run.specs.declared.ending.Cause.TheVariants as causes;
 
+use p11_arguments::Unasked;
 use p11_panel::{Fault, NoMemory, SessionFault};
 use std::alloc::{AllocError, AllocFailed};
 
@@ -85,6 +86,19 @@ impl From<AllocError> for Cause {
 
     fn from(_: AllocError) -> Self {
         Cause::NoMemory
+    }
+}
+
+impl From<Unasked> for Cause {
+    ghost from_gives = { λ reason cause. cause ≡ cause_of reason };
+
+    fn from(reason: Unasked) -> Self {
+        match reason {
+            Unasked::Help(text) => Cause::Help(text),
+            Unasked::Usage(text) => Cause::Usage(text),
+            Unasked::BadNumber => Cause::BadSize,
+            Unasked::NoMemory => Cause::NoMemory,
+        }
     }
 }
 

@@ -3,8 +3,8 @@ use Rattle.clap.specs.Words.{Rule, rule_of}
 use Rattle.clap.specs.declared.builder.arg.Arg.{Arg}
 use Rattle.clap.specs.declared.builder.value_parser.ValueParser.{ValueParser}
 use Rattle.clap.specs.declared.builder.value_parser.ValueParser.TheVariants.{Unsigned}
-use Rattle.p11_run.specs.Launches.{number_option}
-use Rattle.p11_run.proofs.settings.option.Goals as goal
+use Rattle.p11_arguments.specs.CommandLine.{number_option}
+use Rattle.p11_arguments.proofs.arguments.option.Goals as goal
 
 pub returns : goal.returns
 returns c =

@@ -3,8 +3,8 @@ use Rattle.std.proofs.lemmas.Result.{IfOk-weaker}
 use Rattle.std.specs.String.{string_bytes}
 use Rattle.clap.specs.Words.{App, is_simple}
 use Rattle.clap.specs.Simple.{matches_of}
-use Rattle.p11_run.specs.Launches.{rows_in}
-use Rattle.p11_run.proofs.settings.matches.Goals as goal
+use Rattle.p11_arguments.specs.CommandLine.{rows_in}
+use Rattle.p11_arguments.proofs.arguments.matches.Goals as goal
 
 pub returns : goal.returns
 unfolding rows_in

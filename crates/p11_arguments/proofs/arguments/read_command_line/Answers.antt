@@ -3,8 +3,8 @@ use Rattle.std.specs.Prelude.{unwrap_or}
 use Rattle.std.specs.String.{string_bytes}
 use Rattle.clap.specs.Words.{Text, first_of, first_value, found_of}
 use Rattle.clap.proofs.WalkLemmas.{first_value-rows}
-use Rattle.p11_run.specs.Launches.{number_of, rows_in}
-use Rattle.p11_run.proofs.settings.read_command_line.Goals as goal
+use Rattle.p11_arguments.specs.CommandLine.{number_of, rows_in}
+use Rattle.p11_arguments.proofs.arguments.read_command_line.Goals as goal
 
 text_or : (text : Option (Bor (List ℕ))) (other : Bor (List ℕ)) → (unwrap_or text other).now ≡ unwrap_or (option_map (λ t. t.now) text) other.now
 text_or None other = refl

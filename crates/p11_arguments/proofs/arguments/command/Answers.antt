@@ -1,7 +1,7 @@
 use Rattle.std.proofs.Common.{◌≡◌, ◌∙◌, ap₂}
 use Rattle.std.proofs.lemmas.Result.{IfOk-weaker}
 use Rattle.clap.specs.Words.{with_rule}
-use Rattle.p11_run.proofs.settings.command.Goals as goal
+use Rattle.p11_arguments.proofs.arguments.command.Goals as goal
 
 pub returns : goal.returns
 returns c =

@@ -1,0 +1,6 @@
+//! The command line of a PDP-11/40: `p11 [--memory K] [--lines N] SCRIPT`, as it is read from its words.
+#![tactic(auto)]
+
+mod arguments;
+
+pub use arguments::{Asked, Unasked, read_command_line};
