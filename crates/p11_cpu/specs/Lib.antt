@@ -20,3 +20,4 @@ pub mod Quiet
 pub mod Operator
 pub mod OperatorDevices
 pub mod WellFormed
+pub mod Confinement

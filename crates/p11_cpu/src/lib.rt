@@ -11,6 +11,7 @@ mod drives;
 mod extended_instructions;
 mod hardware;
 mod instructions;
+mod laws;
 mod machine;
 mod management;
 mod operand;
@@ -29,6 +30,7 @@ mod turn;
 mod turn_number;
 mod words;
 
+pub use laws::a_user_turn_is_confined;
 pub use machine::Machine;
 pub use registers::{ConsoleRegister, Registers};
 pub use turn::Turn;

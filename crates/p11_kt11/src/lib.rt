@@ -20,8 +20,9 @@ pub use entry::{Entries, Entry};
 pub use kt11::Kt11;
 pub use laws::{
     entries_serve_the_translation, entry_serves_its_page, only_the_top_goes_to_the_io_page,
-    same_pages_same_place, same_reference_same_answer, translation_keeps_pages,
-    translation_keeps_user_off_io_page, user_translation_keeps_all_else,
+    registers_stand_on_the_io_page, same_pages_same_place, same_reference_same_answer,
+    translation_keeps_pages, translation_keeps_user_off_io_page, user_addresses_have_16_bits,
+    user_translation_keeps_all_else, user_translation_keeps_the_reach,
 };
 pub use page::{Access, Descriptor, Growth, Page};
 pub use reference::{Abort, Causes, Kind};

@@ -1,6 +1,7 @@
 pub mod RangeLemmas
 pub mod RunLemmas
 pub mod PlayLemmas
+pub mod ConfinedRuns
 pub mod OutcomeLemmas
 pub mod FlushLemmas
 pub mod LoadLemmas

@@ -9,6 +9,7 @@ pub mod Disks
 pub mod Tapes
 pub mod Commands
 pub mod Play
+pub mod Confinement
 pub mod FlushLaws
 pub mod Script
 pub mod Buffer

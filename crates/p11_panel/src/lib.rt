@@ -4,6 +4,7 @@
 mod answering;
 mod command;
 mod config;
+mod confined;
 mod disk;
 mod keys;
 mod laws;
@@ -21,6 +22,7 @@ mod store;
 
 pub use command::Command;
 pub use config::Config;
+pub use confined::a_user_run_is_confined;
 pub use laws::{
     a_command_has_one_outcome, a_list_has_one_outcome, a_run_has_one_outcome, flush_shows_nothing,
     the_number_of_lines_shows_nothing,

@@ -1,10 +1,12 @@
 ghost use Rattle.std.specs.Prelude.{◌≡◌, ◌<◌, ◌≤◌, ◌+◌, ◌^◌, true, IfOk};
 ghost use Rattle.p11_cpu.specs.Operator.{new_machine};
 ghost use Rattle.p11_panel.specs.Commands.{Acts, Examines, Stops};
+ghost use Rattle.p11_panel.specs.Confinement.{ConfinesRun, ConfinesStop};
 ghost use Rattle.p11_panel.specs.Ranges.{all_answer};
 
 use crate::command::Command;
 use crate::config::Config;
+use crate::confined::a_user_run_is_confined;
 use crate::refusal::start_refusal;
 use crate::run::run;
 use p11_cpu::{ConsoleRegister, Machine};
@@ -46,9 +48,12 @@ impl<A: Allocator + Copy> Panel<A> {
     /// Does one command, and answers it.
     ///
     /// A refused command answers its first fault and changes nothing. A `Mount`, a `Save`, a `Changed`, a `Load` and an
-    /// `Examine` of several words may find no memory, and answer `NoMemory` then; no other command does.
+    /// `Examine` of several words may find no memory, and answer `NoMemory` then; no other command does. A `Step` or a
+    /// `Continue` of a user program that memory management keeps off the I/O page, in which no service begins, leaves
+    /// all memory that it doesn't reach, but for what disk reads store.
     pub fn act(&mut self, alloc: A, command: &Command<A>) -> Answer<A>
-        ensures { Acts self.old command.now result self.new }
+        ensures acts { Acts self.old command.now result self.new }
+        ensures confined { ConfinesRun self.old command.now result self.new }
     {
         match command {
             Command::Mount {
@@ -184,7 +189,8 @@ impl<A: Allocator + Copy> Panel<A> {
 
     /// STEP.
     fn step(&mut self, turns: u32) -> Answer<A>
-        ensures { Acts self.old (Command.Step turns) result self.new }
+        ensures acts { Acts self.old (Command.Step turns) result self.new }
+        ensures confined { ConfinesRun self.old (Command.Step turns) result self.new }
     {
         if let Some(fault) = self.step_refusal(turns) {
             return Answer::Refused(fault);
@@ -194,7 +200,8 @@ impl<A: Allocator + Copy> Panel<A> {
 
     /// CONTINUE.
     fn continue_run(&mut self, turns: u32) -> Answer<A>
-        ensures { Acts self.old (Command.Continue turns) result self.new }
+        ensures acts { Acts self.old (Command.Continue turns) result self.new }
+        ensures confined { ConfinesRun self.old (Command.Continue turns) result self.new }
     {
         if let Some(fault) = self.step_refusal(turns) {
             return Answer::Refused(fault);
@@ -205,8 +212,11 @@ impl<A: Allocator + Copy> Panel<A> {
     /// Makes a run, and takes what was typed in it.
     fn make_run(&mut self, turns: u32, until_idle: bool) -> Answer<A>
         requires { self.old.turns + turns ≤ 2 ^ 62 }
-        ensures { Stops until_idle turns self.old result self.new }
+        ensures stops { Stops until_idle turns self.old result self.new }
+        ensures confined { ConfinesStop self.old result self.new }
     {
+        self.machine.state_is_well_formed();
+        a_user_run_is_confined();
         let (made, reason) = run(&mut self.machine, turns, until_idle);
         let pc = self.machine.regs().pc;
         let typed = self.machine.take_typed();

@@ -1,5 +1,6 @@
 ghost use Rattle.std.specs.Prelude.{◌≡◌, IfOk};
 ghost use Rattle.p11_cpu.specs.Operator.{new_machine};
+ghost use Rattle.p11_panel.specs.Confinement.{PlaysConfined};
 ghost use Rattle.p11_panel.specs.Play.{Plays};
 
 use crate::command::Command;
@@ -9,7 +10,7 @@ use p11_lines::{Answer, NoMemory};
 use std::alloc::Allocator;
 
 /// Does a list of commands, one after another, on a new machine of these sizes: the panel after the last of them, and
-/// the list of their answers, one for each.
+/// the list of their answers, one for each. Each run in the list leaves what `Panel::act` says that it leaves.
 ///
 /// The only error is want of memory, for the machine or for the list of answers; nothing is handed out then.
 pub fn play<A: Allocator + Copy>(
@@ -17,7 +18,8 @@ pub fn play<A: Allocator + Copy>(
     config: Config,
     commands: &[Command<A>],
 ) -> Result<(Panel<A>, Vec<Answer<A>, A>), NoMemory>
-    ensures { IfOk result (λ r. Plays (new_machine config.kwords) commands.now r.1.items r.0) }
+    ensures plays { IfOk result (λ r. Plays (new_machine config.kwords) commands.now r.1.items r.0) }
+    ensures confined { IfOk result (λ r. PlaysConfined (new_machine config.kwords) commands.now r.1.items r.0) }
 {
     let mut panel = Panel::new(alloc, config)?;
     let mut answers = Vec::new(alloc);

@@ -6,6 +6,7 @@ ghost use Rattle.p11_unibus.specs.Bytes.{byte_at, with_byte};
 ghost use Rattle.p11_unibus.specs.Bus.{answers};
 ghost use Rattle.p11_unibus.specs.Due.{acts_in, next_due, IsNextDue, NoneLater};
 ghost use Rattle.p11_unibus.specs.Laws.{GrantsNoneLower, ShowsThere, StaysElsewhere};
+ghost use Rattle.p11_unibus.specs.Registers.{register_at};
 ghost use Rattle.p11_unibus.specs.State.{BusState, io_page, new_memory};
 ghost use Rattle.p11_unibus.specs.Written.{ChangedOnly};
 
@@ -19,6 +20,12 @@ pub fn memory_ends_below_the_io_page(kwords: u32, address: u32)
     requires size { kwords ≤ 124 }
     requires page { io_page ≤ address }
     ensures { has_word (new_memory kwords) address ≡ false }
+{}
+
+/// The registers of the devices and the switches stand on the I/O page: below it there is none.
+#[tactic(auto, unfolding(crate::specs::Registers::register_at, p11_kw11::specs::LineClock::register_at, p11_dl11::specs::Addresses::register_at, p11_rk11::specs::Registers::register_at))]
+pub fn registers_stand_on_the_io_page()
+    ensures { (pa : ℕ) → pa < io_page → register_at pa ≡ None }
 {}
 
 /// A byte that replaces one of a word is the byte that is then read there.

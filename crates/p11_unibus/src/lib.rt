@@ -28,8 +28,9 @@ pub use due::DueTurns;
 pub use laws::{
     a_byte_is_read_back, a_turn_in_which_no_device_acts_changes_nothing,
     a_word_written_to_memory_shows, an_odd_address_answers_nowhere, memory_ends_below_the_io_page,
-    nothing_happens_where_nothing_is_due, the_acts_write_words_of_a_disk_read_alone,
-    the_highest_request_is_granted, the_next_due_turn_is_the_first_in_which_a_device_acts,
+    nothing_happens_where_nothing_is_due, registers_stand_on_the_io_page,
+    the_acts_write_words_of_a_disk_read_alone, the_highest_request_is_granted,
+    the_next_due_turn_is_the_first_in_which_a_device_acts,
 };
 pub use memory::Memory;
 pub use references::is_transmitter_high_byte;
