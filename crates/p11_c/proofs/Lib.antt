@@ -1,0 +1,4 @@
+pub mod CallLemmas
+pub mod RowLemmas
+pub mod StoreLemmas
+pub mod TypedLemmas

@@ -1,0 +1,168 @@
+// A store of files in memory, which can be written as a row.
+ghost use Rattle.std.specs.Prelude.{◌≡◌, ◌+◌, ◌∷◌, ◌++◌, [], ◌<◌, ◌^◌, None, Some, OnOk, OnErr, IfOk, IsTrue, ◌↔◌};
+ghost use Rattle.std.specs.Prelude.{length, option_copied};
+ghost use Rattle.std.specs.List.{All};
+ghost use Rattle.p11_panel.specs.Files.{bytes_under, with_file};
+ghost use Rattle.p11_c.specs.Calls.{unrefused};
+ghost use Rattle.p11_c.specs.Rows.{Fits};
+
+use p11_panel::{Refusals, Store, StoreError};
+use std::alloc::{AllocError, Allocator, Global};
+use std::marker::Model;
+use std::sync::ledger::{Blank, Ledger};
+
+/// A file, by its name.
+#[derive(Drop)]
+pub(crate) struct StoredFile<A: Allocator = Global> {
+    name: Vec<u8, A>,
+    bytes: Vec<u8, A>,
+}
+
+impl<A: Allocator> Model for StoredFile<A> {
+    ghost use Rattle.p11_panel.specs.Files.{NamedBytes};
+
+    ghost Value = { NamedBytes };
+
+    ghost view = { λ f. record { name = f.name.items; bytes = f.bytes.items } };
+}
+
+impl<A: Allocator + Copy> StoredFile<A> {
+    /// A copy of these bytes, with a copy of this name.
+    pub(crate) fn new(alloc: A, name: &[u8], bytes: &[u8]) -> Result<Self, AllocError>
+        ensures { IfOk result (λ f. f ≡ record { name = name.now; bytes = bytes.now }) }
+    {
+        let name = Vec::from_slice(alloc, name)?;
+        let bytes = Vec::from_slice(alloc, bytes)?;
+        Ok(StoredFile { name, bytes })
+    }
+}
+
+impl<A: Allocator> StoredFile<A> {
+    pub(crate) fn name(&self) -> &[u8]
+        ensures { result.now ≡ self.now.name }
+    {
+        self.name.as_slice()
+    }
+
+    pub(crate) fn bytes(&self) -> &[u8]
+        ensures { result.now ≡ self.now.bytes }
+    {
+        self.bytes.as_slice()
+    }
+}
+
+/// The last bytes under a name.
+fn find<'a, A: Allocator>(files: &'a [StoredFile<A>], name: &[u8]) -> Option<&'a [u8]>
+    ensures { option_copied result ≡ bytes_under None files.now name.now }
+{
+    let mut found = None;
+    for file in files {
+        if file.name() == name {
+            found = Some(file.bytes());
+            continue;
+        }
+    }
+    found
+}
+
+/// A store of files in memory, in which the last bytes under a name count, and whose names and files have fewer than
+/// 2^32 bytes each.
+///
+/// It refuses a fetch of a name that it doesn't have, and a put of more bytes than that or for which it has no memory;
+/// a fetch whose copy finds no memory answers `NoMemory`, which is no refusal.
+#[derive(Drop)]
+pub(crate) struct RowStore<L: Ledger, A: Allocator = Global> {
+    files: Vec<StoredFile<A>, A>,
+    refusals: Refusals<L>,
+    alloc: A,
+}
+
+impl<L: Ledger, A: Allocator> Model for RowStore<L, A> {
+    ghost use Rattle.std.specs.List.{All};
+    ghost use Rattle.p11_panel.specs.Files.{MemoryFiles};
+    ghost use Rattle.p11_c.specs.Rows.{Fits};
+
+    ghost Value = { MemoryFiles };
+
+    ghost view = { λ s. record { files = s.files.items; refusals = s.refusals } };
+
+    ghost invariant = { λ s. All Fits s.files.items };
+}
+
+impl<L: Ledger, A: Allocator + Copy> RowStore<L, A> {
+    /// A store that has these files, and has refused nothing.
+    pub(crate) fn new(alloc: A, blank: Blank, files: Vec<StoredFile<A>, A>) -> Self
+        requires name { blank.name ≡ L.name }
+        requires parts { blank.parts ≡ L.parts }
+        requires some { 0 < blank.parts }
+        requires fit { All Fits files.items }
+        ensures { result ≡ unrefused files.items }
+    {
+        RowStore {
+            files,
+            refusals: Refusals::new(blank),
+            alloc,
+        }
+    }
+
+    /// All files, in the order in which they were put.
+    pub(crate) fn files(&self) -> &[StoredFile<A>]
+        ensures files { result.now ≡ self.now.files }
+        ensures fit { All Fits result.now }
+    {
+        self.files.as_slice()
+    }
+
+    /// Keeps one more file.
+    fn add(&mut self, name: &[u8], bytes: &[u8]) -> Result<(), AllocError>
+        requires { Fits (record { name = name.now; bytes = bytes.now }) }
+        ensures ok { OnOk result (self.new ≡ with_file name.now bytes.now self.old) }
+        ensures err { OnErr result (self.new ≡ self.old) }
+    {
+        let file = StoredFile::new(self.alloc, name, bytes)?;
+        self.files.push(file)?;
+        Ok(())
+    }
+
+    /// Refuses a call.
+    fn refuse(&mut self) -> StoreError
+        ensures error { result ≡ StoreError.Refused }
+        ensures state { self.new ≡ record self.old { refusals = self.old.refusals + 1 } }
+    {
+        self.refusals.count();
+        StoreError::Refused
+    }
+}
+
+/// Whether the length of some bytes is a number of 4 bytes.
+fn fits(bytes: &[u8]) -> bool
+    ensures { IsTrue result ↔ (length bytes.now < 2 ^ 32) }
+{
+    bytes.len() < 1 << 32
+}
+
+impl<L: Ledger, A: Allocator + Copy> Store for RowStore<L, A> {
+    ghost use Rattle.p11_panel.specs.Files.{store_of};
+
+    ghost state = { λ s. store_of s };
+
+    fn fetch<B: Allocator>(&mut self, alloc: B, name: &[u8]) -> Result<Vec<u8, B>, StoreError> {
+        let Some(bytes) = find(self.files.as_slice(), name) else {
+            return Err(self.refuse());
+        };
+        match Vec::from_slice(alloc, bytes) {
+            Ok(copy) => Ok(copy),
+            Err(_) => Err(StoreError::NoMemory),
+        }
+    }
+
+    fn put(&mut self, name: &[u8], bytes: &[u8]) -> Result<(), StoreError> {
+        if !fits(name) || !fits(bytes) {
+            return Err(self.refuse());
+        }
+        match self.add(name, bytes) {
+            Ok(()) => Ok(()),
+            Err(_) => Err(self.refuse()),
+        }
+    }
+}

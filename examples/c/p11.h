@@ -1,0 +1,71 @@
+/* A PDP-11/40 that is proved, for C: whole sessions of the operator's console, from bytes to bytes.
+ *
+ * Link libp11_c.a and, behind it, the toolchain's liblibc_c.a, which passes the library's requests for memory on to
+ * malloc, realloc and free. The language of scripts and answers is in docs/OPERATOR.md, what is proved of these calls
+ * and what a caller owes in docs/PROVED.md ("Called from C"). */
+#ifndef P11_H
+#define P11_H
+
+#include <stddef.h>
+#include <stdint.h>
+
+#ifdef __cplusplus
+extern "C" {
+#endif
+
+/* How a call ended. */
+enum {
+    P11_DONE = 0,      /* the session is done; a refused line of the script has its refusal in the answers */
+    P11_NO_MEMORY = 1, /* there is no memory for the machine, the files, the answers or the typed bytes */
+    P11_BAD_SIZE = 2,  /* no machine has these sizes */
+    P11_BAD_FILES = 3, /* the bytes of the files are no row of files */
+    P11_TOO_SMALL = 4, /* a buffer is too small: both lengths are told */
+    P11_TOO_LONG = 5   /* the script wasn't read to its end: it has 4,095,995,904 bytes or more */
+};
+
+#if defined(__GNUC__)
+#define P11_NONNULL __attribute__((nonnull))
+#else
+#define P11_NONNULL
+#endif
+
+/* Does the lines of a script on a new machine, and hands out the text of the answers and the files after it.
+ *
+ * kwords                  thousands (1,024) of words of memory: 4 to 124 in steps of 4
+ * lines                   how many decoded instructions the machine keeps: 0 to 4,096; no answer depends on it
+ * script, script_length   the script, in bytes; LF ends a line
+ * files, files_length     the files that the script's mount, load and save find: for each its name's length, its
+ *                         name, its length and its bytes, one behind the other, each length in 4 bytes, the lowest
+ *                         first. Of files of one name the last counts. No file is a row of 0 bytes.
+ * answers                 gets the text, which is as ./p11 writes it; not ended by a 0
+ * answers_capacity        bytes of room in answers
+ * answers_length          is told the bytes of the text
+ * files_out               gets the files after the session, as a row of the same form: those that were given, and
+ *                         behind them those that were saved, in that order
+ * files_capacity          bytes of room in files_out
+ * files_out_length        is told the bytes of that row
+ *
+ * P11_DONE: both are written, and the bytes of the buffers behind them are as they were. P11_TOO_SMALL: both lengths
+ * are told, and no byte of answers or files_out is written; the same call with more room gives the answers. With any
+ * other status nothing at all is written, the lengths neither.
+ *
+ * All memory stays the caller's, and nothing of it is kept. No pointer may be null, also one to 0 bytes; script and
+ * files may overlap each other, but nothing that is written may overlap anything else. Calls share nothing, so they
+ * may be made in different threads at once. No call stops the process. Not from a signal handler, nor in the forked
+ * child of a process with threads. */
+P11_NONNULL
+int32_t p11_session(uint32_t kwords, uint32_t lines, const uint8_t *script, size_t script_length,
+                    const uint8_t *files, size_t files_length, uint8_t *answers, size_t answers_capacity,
+                    size_t *answers_length, uint8_t *files_out, size_t files_capacity, size_t *files_out_length);
+
+/* The same, but typed gets, in place of the text, the bytes that were typed on the terminal in all runs of the script
+ * (what its lines TTY show), as they are. */
+P11_NONNULL
+int32_t p11_typed(uint32_t kwords, uint32_t lines, const uint8_t *script, size_t script_length,
+                  const uint8_t *files, size_t files_length, uint8_t *typed, size_t typed_capacity,
+                  size_t *typed_length, uint8_t *files_out, size_t files_capacity, size_t *files_out_length);
+
+#ifdef __cplusplus
+}
+#endif
+#endif

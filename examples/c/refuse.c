@@ -1,0 +1,55 @@
+/* refuse: plays one session while each request for memory in turn is refused, by itself and then with all that follow it;
+ * says how many calls met a refusal. Linked with --wrap for malloc and realloc. A call then ends with P11_NO_MEMORY and nothing written, or
+ * is done, with the refusal in an answer. */
+#include <stdio.h>
+#include <stdlib.h>
+#include <string.h>
+
+#include "p11.h"
+
+static long left_to_grant = -1; /* below 0: all are granted */
+static int refuses_on, was_refused;
+
+void *__real_malloc(size_t size);
+void *__real_realloc(void *old, size_t size);
+void *__wrap_malloc(size_t size);
+void *__wrap_realloc(void *old, size_t size);
+
+static int is_refused(void) {
+    if (left_to_grant < 0) return 0;
+    if (left_to_grant > 0) return left_to_grant--, 0;
+    left_to_grant = refuses_on ? 0 : -1;
+    return was_refused = 1;
+}
+
+void *__wrap_malloc(size_t size) {
+    return is_refused() ? NULL : __real_malloc(size);
+}
+
+void *__wrap_realloc(void *old, size_t size) {
+    return is_refused() ? NULL : __real_realloc(old, size);
+}
+
+int main(void) {
+    static const uint8_t script[] =
+        "mount 0 p rw\ndeposit 1000 777\nexamine 1000 3\nstart 1000\nstep 9\nsave 0 q\nregs\n";
+    static const uint8_t files[] = {1, 0, 0, 0, 'p', 1, 0, 0, 0, 7};
+    static uint8_t out[4096], list[4 << 20];
+    long refused = 0;
+    for (refuses_on = 0; refuses_on < 2; refuses_on++) {
+        for (long granted = 0;; granted++) {
+            size_t length = 7, list_length = 7;
+            memset(out, 0xa5, sizeof out);
+            left_to_grant = granted;
+            was_refused = 0;
+            int status = p11_session(28, 16, script, sizeof script - 1, files, sizeof files, out, sizeof out, &length,
+                                     list, sizeof list, &list_length);
+            left_to_grant = -1;
+            if (status == P11_NO_MEMORY ? out[0] != 0xa5 || length != 7 || list_length != 7 : status != P11_DONE)
+                return fprintf(stderr, "refuse: status %d behind %ld requests\n", status, granted), 1;
+            if (!was_refused) break;
+            refused++;
+        }
+    }
+    return printf("refuse: %ld refusals\n", refused) < 0;
+}
