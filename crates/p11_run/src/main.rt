@@ -7,17 +7,15 @@
 ghost use Rattle.std.specs.Prelude.{◌≡◌, ◌<◌};
 
 mod ending;
-mod file_store;
-mod replacing;
 mod script_reader;
 mod settings;
 #[cfg(test)]
 mod tests;
 
 use crate::ending::{Cause, ending, ending_after};
-use crate::file_store::FileStore;
 use crate::script_reader::ScriptReader;
 use crate::settings::{Launch, settings};
+use p11_files::FileStore;
 use p11_panel::{Panel, session};
 use std::marker::Brand;
 use std::process::ExitCode;

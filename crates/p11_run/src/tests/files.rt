@@ -1,7 +1,7 @@
 // The program's store of files, over the files of the system.
 ghost use Rattle.std.specs.Prelude.{◌≡◌, ◌<◌};
 
-use crate::file_store::FileStore;
+use p11_files::FileStore;
 use p11_panel::{Store, StoreError};
 use std::fs;
 use std::fs::File;

@@ -1,5 +1,5 @@
 // What a file that is replaced keeps, and which files aren't.
-use crate::replacing::replace_file;
+use p11_files::replace_file;
 use std::fs;
 use std::fs::Permissions;
 use std::os::unix::fs::{MetadataExt, PermissionsExt, chown, symlink};

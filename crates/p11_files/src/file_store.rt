@@ -1,4 +1,4 @@
-// The store of files that the program has: those of the system, whose names are paths from the working folder on.
+// The store of files that the programs have: those of the system, whose names are paths from the working folder on.
 ghost use Rattle.std.specs.Prelude.{◌≡◌, ◌+◌, ◌<◌, None};
 
 use crate::replacing::replace_file;
@@ -17,14 +17,14 @@ const READ_BYTES: usize = 4096;
 
 /// The files of the system. None of them is open between two calls.
 #[derive(Drop)]
-pub(crate) struct FileStore<'a, L: Ledger> {
+pub struct FileStore<'a, L: Ledger> {
     rt: &'a HostRuntime,
     refusals: Refusals<L>,
 }
 
 impl<'a, L: Ledger> FileStore<'a, L> {
     /// The files that the program reaches, of which it has refused none.
-    pub(crate) fn new(rt: &'a HostRuntime, blank: Blank) -> Self
+    pub fn new(rt: &'a HostRuntime, blank: Blank) -> Self
         requires name { blank.name ≡ L.name }
         requires parts { blank.parts ≡ L.parts }
         requires some { 0 < blank.parts }

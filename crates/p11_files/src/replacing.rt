@@ -35,7 +35,7 @@ struct Place {
 /// Leaves these bytes under a name, in the file to which its links lead: they are written to a new file beside it,
 /// which then takes its place. So what was there stays whole where they can't be written. Only a file that may be
 /// written is replaced, and no folder or device.
-pub(crate) fn replace_file(rt: &HostRuntime, name: &[u8], bytes: &[u8]) -> io::Result<()> {
+pub fn replace_file(rt: &HostRuntime, name: &[u8], bytes: &[u8]) -> io::Result<()> {
     let Ok(name) = str::from_utf8(name) else {
         return Err(io::Error::from(ErrorKind::InvalidInput));
     };

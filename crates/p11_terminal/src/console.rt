@@ -1,0 +1,80 @@
+// What the program says to the person at the console.
+use crate::whole::write_whole;
+use itoa::Buffer;
+use p11_lines::put_answer;
+use p11_panel::Answer;
+use std::alloc::Allocator;
+use std::io::Write;
+
+/// The writer of all that is said, but for what the machine types. Once it has failed nothing more is said.
+#[derive(Drop)]
+pub(crate) struct Console<W> {
+    writer: W,
+    is_torn: bool,
+}
+
+impl<W: Write> Console<W> {
+    pub(crate) fn new(writer: W) -> Self {
+        Console {
+            writer,
+            is_torn: false,
+        }
+    }
+
+    /// Whether the writer has failed, or took nothing.
+    pub(crate) fn is_torn(&self) -> bool {
+        self.is_torn
+    }
+
+    /// Says bytes.
+    pub(crate) fn put(&mut self, bytes: &[u8]) {
+        if !self.is_torn && !write_whole(&mut self.writer, bytes) {
+            self.is_torn = true;
+        }
+    }
+
+    /// Says a text.
+    pub(crate) fn say(&mut self, text: &str) {
+        self.put(text.as_bytes());
+    }
+
+    /// Says a number in decimal.
+    pub(crate) fn number(&mut self, number: u64) {
+        let mut buffer = Buffer::new();
+        self.put(buffer.format(number).as_bytes());
+    }
+
+    /// Says a word in six octal digits.
+    pub(crate) fn word(&mut self, word: u16) {
+        let digits = [
+            octal_digit(word >> 15),
+            octal_digit(word >> 12),
+            octal_digit(word >> 9),
+            octal_digit(word >> 6),
+            octal_digit(word >> 3),
+            octal_digit(word),
+        ];
+        self.put(&digits);
+    }
+
+    /// Says an answer.
+    pub(crate) fn answer<A: Allocator>(&mut self, answer: &Answer<A>) {
+        if !self.is_torn && put_answer(&mut self.writer, answer).is_err() {
+            self.is_torn = true;
+        }
+    }
+}
+
+/// The low three bits as a digit.
+fn octal_digit(bits: u16) -> u8 {
+    match bits & 7 {
+        0 => b'0',
+        1 => b'1',
+        2 => b'2',
+        3 => b'3',
+        4 => b'4',
+        5 => b'5',
+        6 => b'6',
+        _ => b'7',
+    }
+}
