@@ -1,9 +1,8 @@
 -- LOAD: the data bytes of a tape go to memory, each to its address.
-use Rattle.std.specs.Prelude.{ℕ, ◌⊎◌, List, [], ◌∷◌, length, Bool, Option}
+use Rattle.std.specs.Prelude.{ℕ, ◌⊎◌, List, [], ◌∷◌, length, Bool, Option, MatchResult}
 use Rattle.std.specs.List.{list_all}
 use Rattle.std.specs.Bool.{MatchBool}
-use Rattle.p11_tape.specs.Tape.{Means}
-use Rattle.p11_tape.specs.Fault.{HasSomeFault}
+use Rattle.p11_tape.specs.Reading.{reading}
 use Rattle.p11_lines.specs.declared.fault.Fault.TheVariants.{BadTape, NoAnswer, NoMemory}
 use Rattle.p11_lines.specs.declared.answer.Answer.{Answer}
 use Rattle.p11_lines.specs.declared.answer.Answer.TheVariants as answers
@@ -29,6 +28,6 @@ Places placed start s answer s' =
 -- Bytes that are no tape are refused. Those that are may find no memory, before the first is written.
 abbrev pub Loads : {A : Type 0} → List ℕ → State → Answer A → State → Type 0
 Loads tape s answer s' =
-    (HasSomeFault tape × IsRefused BadTape s answer s')
-    ⊎ ((placed : List (ℕ × ℕ)) × (start : Option ℕ) × Means tape placed start
-    × (Places placed start s answer s' ⊎ IsRefused NoMemory s answer s'))
+    MatchResult (reading tape)
+    (λ meaning. Places meaning.placed meaning.start s answer s' ⊎ IsRefused NoMemory s answer s')
+    (λ fault. IsRefused BadTape s answer s')

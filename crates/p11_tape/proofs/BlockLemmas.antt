@@ -4,42 +4,11 @@ use Rattle.std.proofs.lemmas.Bool.{and_right, le-ltb, lt-leb}
 use Rattle.std.proofs.lemmas.List.{length-append, take_at, length-take-le}
 use Rattle.p11_tape.specs.Block.{Block, block_bytes, before_checksum, IsBlock}
 use Rattle.p11_tape.specs.Fault.{wrong_of, count_at, address_at}
-use Rattle.p11_tape.specs.Begins.{IsWhole, BeginsWith}
+use Rattle.p11_tape.specs.Begins.{IsWhole}
 
 -- each element is a byte
 abbrev pub IsBytes : List ℕ → Type 0
 IsBytes bytes = (i : ℕ) → get_or bytes i 0 < 256
-
--- two words with the same bytes are the same
-same_word : (m n : ℕ) → m % 256 ≡ n % 256 → m / 256 ≡ n / 256 → m ≡ n
-same_word m n low high = omega arith
-
--- data of one length, a checksum and what follows can be told apart
-same_content : (a c : List ℕ) (k m : ℕ) (x y : List ℕ) → length a ≡ length c → a ++ k ∷ [] ++ x ≡ c ++ m ∷ [] ++ y → (a ≡ c) × (k ≡ m) × (x ≡ y)
-same_content [] [] k m x y l e = (refl, cc, cc)
-same_content [] (d ∷ c) k m x y l e = absurd (omega arith)
-same_content (b ∷ a) [] k m x y l e = absurd (omega arith)
-same_content (b ∷ a) (d ∷ c) k m x y l e =
-    let tail : a ++ k ∷ [] ++ x ≡ c ++ m ∷ [] ++ y = cc in
-    let rest = same_content a c k m x y (omega arith) tail in
-    let heads : b ≡ d = cc in
-    (cc, rest.1, rest.2)
-
-same_block : (a b : ℕ) (xs ys : List ℕ) (k m : ℕ) → a ≡ b → xs ≡ ys → k ≡ m → ◌≡◌ {A = Block} (record { address = a; bytes = xs; checksum = k }) (record { address = b; bytes = ys; checksum = m })
-same_block a b xs ys k m e f g = cc
-
--- What begins with a block begins with exactly one block.
-pub block_once : (b c : Block) (x y : List ℕ) → block_bytes b ++ x ≡ block_bytes c ++ y → (b ≡ c) × (x ≡ y)
-unfolding block_bytes before_checksum
-block_once b c x y e =
-    let count_low : (6 + length b.bytes) % 256 ≡ (6 + length c.bytes) % 256 = cc in
-    let count_high : (6 + length b.bytes) / 256 ≡ (6 + length c.bytes) / 256 = cc in
-    let count : 6 + length b.bytes ≡ 6 + length c.bytes = same_word _ _ count_low count_high in
-    let low : b.address % 256 ≡ c.address % 256 = cc in
-    let high : b.address / 256 ≡ c.address / 256 = cc in
-    let content : b.bytes ++ b.checksum ∷ [] ++ x ≡ c.bytes ++ c.checksum ∷ [] ++ y = cc in
-    let parts = same_content b.bytes c.bytes b.checksum c.checksum x y (omega arith) content in
-    (same_block b.address c.address b.bytes c.bytes b.checksum c.checksum (same_word _ _ low high) parts.0 parts.1, parts.2)
 
 pub length-block_bytes : (b : Block) → length (block_bytes b) ≡ 7 + length b.bytes
 unfolding block_bytes before_checksum
@@ -73,7 +42,7 @@ whole_block b x = record {
 }
 
 -- nothing is wrong with such bytes
-wrong_none : (at : ℕ) (bytes : List ℕ) → IsWhole bytes → address_at bytes + (count_at bytes - 6) ≤ 2 ^ 16 → sum (take (count_at bytes + 1) bytes) % 2 ^ 8 ≡ 0 → wrong_of at bytes ≡ None
+pub wrong_none : (at : ℕ) (bytes : List ℕ) → IsWhole bytes → address_at bytes + (count_at bytes - 6) ≤ 2 ^ 16 → sum (take (count_at bytes + 1) bytes) % 2 ^ 8 ≡ 0 → wrong_of at bytes ≡ None
 unfolding wrong_of
 wrong_none at bytes h within zero_sum =
     rw (
@@ -114,10 +83,16 @@ header_splits lo hi al ah k more lo_fits al_fits count whole =
     let content = split_at k more whole in
     cc
 
+-- bytes are a sound block and what is after it
+pub record Splits (bytes : List ℕ) (address : ℕ) (content after : List ℕ) : Type 0 where
+  pub checksum : ℕ
+  pub is_block : IsBlock (record { address = address; bytes = content; checksum = checksum })
+  pub splits : bytes ≡ block_bytes (record { address = address; bytes = content; checksum = checksum }) ++ after
+
 -- bytes that are whole, fit and sum to 0 begin with a block
 begins : (lo hi al ah k : ℕ) (more : List ℕ) → lo < 256 → hi < 256 → al < 256 → ah < 256 → lo + 256 * hi ≡ 6 + k → k < length more →
     al + 256 * ah + k ≤ 2 ^ 16 → sum (take (7 + k) (1 ∷ 0 ∷ lo ∷ hi ∷ al ∷ ah ∷ more)) % 2 ^ 8 ≡ 0 →
-    BeginsWith (1 ∷ 0 ∷ lo ∷ hi ∷ al ∷ ah ∷ more) (al + 256 * ah) (take k more) (drop (suc k) more)
+    Splits (1 ∷ 0 ∷ lo ∷ hi ∷ al ∷ ah ∷ more) (al + 256 * ah) (take k more) (drop (suc k) more)
 begins lo hi al ah k more lo_fits hi_fits al_fits ah_fits count whole within zero_sum =
     let len : length (take k more) ≡ k = length-take-le k more (omega arith) in
     let b : Block = record { address = al + 256 * ah; bytes = take k more; checksum = get_or more k 0 } in
@@ -137,7 +112,7 @@ begins lo hi al ah k more lo_fits hi_fits al_fits ah_fits count whole within zer
 -- the same of bytes with a count of n
 there : (a b lo hi al ah n : ℕ) (more : List ℕ) → a ≡ 1 → b ≡ 0 → lo < 256 → hi < 256 → al < 256 → ah < 256 → lo + 256 * hi ≡ n → 6 ≤ n → n < 6 + length more →
     al + 256 * ah + (n - 6) ≤ 2 ^ 16 → sum (take (n + 1) (a ∷ b ∷ lo ∷ hi ∷ al ∷ ah ∷ more)) % 2 ^ 8 ≡ 0 →
-    BeginsWith (a ∷ b ∷ lo ∷ hi ∷ al ∷ ah ∷ more) (al + 256 * ah) (take (n - 6) more) (drop (n + 1) (a ∷ b ∷ lo ∷ hi ∷ al ∷ ah ∷ more))
+    Splits (a ∷ b ∷ lo ∷ hi ∷ al ∷ ah ∷ more) (al + 256 * ah) (take (n - 6) more) (drop (n + 1) (a ∷ b ∷ lo ∷ hi ∷ al ∷ ah ∷ more))
 there a b lo hi al ah n more first second lo_fits hi_fits al_fits ah_fits count header whole within zero_sum =
     let beyond : n + 1 ≡ suc (suc (suc (suc (suc (suc (suc (n - 6))))))) = omega arith in
     let all : n + 1 ≡ 7 + (n - 6) = omega arith in
@@ -147,7 +122,7 @@ there a b lo hi al ah n more first second lo_fits hi_fits al_fits ah_fits count 
 
 -- What is whole, goes no further than memory and sums to 0 is a block.
 pub block_there : (bytes : List ℕ) → IsBytes bytes → IsWhole bytes → address_at bytes + (count_at bytes - 6) ≤ 2 ^ 16 → sum (take (count_at bytes + 1) bytes) % 2 ^ 8 ≡ 0 →
-    BeginsWith bytes (address_at bytes) (take (count_at bytes - 6) (drop 6 bytes)) (drop (count_at bytes + 1) bytes)
+    Splits bytes (address_at bytes) (take (count_at bytes - 6) (drop 6 bytes)) (drop (count_at bytes + 1) bytes)
 unfolding count_at address_at
 block_there (a ∷ b ∷ lo ∷ hi ∷ al ∷ ah ∷ more) fits h within zero_sum =
     there a b lo hi al ah (lo + 256 * hi) more h.first h.second (fits 2) (fits 3) (fits 4) (fits 5) refl h.header (omega (arith, h.whole)) within zero_sum

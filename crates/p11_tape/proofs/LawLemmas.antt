@@ -1,93 +1,68 @@
--- The laws of the grammar.
-use Rattle.std.proofs.Common.{◌≡◌, ℕ, suc, zero, ◌<◌, ◌≤◌, ◌+◌, ◌-◌, ◌%◌, ◌^◌, Bool, true, false, ◌&&◌, cond, List, [], ◌∷◌, ◌++◌, length, take, drop, replicate, get_or, sum, Option, Some, None, ◌⊎◌, inl, inr, ltb, leb, refl, sym, ap, arith, ◌∙◌}
+-- What is read of a tape is what the grammar gives it to mean.
+use Rattle.std.proofs.Common.{◌≡◌, ℕ, suc, zero, ◌<◌, ◌≤◌, ◌+◌, ◌-◌, ◌%◌, ◌^◌, Bool, true, false, ◌&&◌, cond, List, [], ◌∷◌, ◌++◌, length, take, drop, replicate, get_or, sum, Option, Some, None, Result, Ok, Err, ◌⊎◌, inl, inr, ltb, leb, eqb, refl, sym, ap, subst, arith, ◌∙◌}
 use Rattle.std.specs.Prelude.{All}
-use Rattle.std.specs.List.{flat_map}
-use Rattle.std.proofs.lemmas.Bool.{eqb-true, ltb-false, leb-false, or_parts, not-false, cases_lt, lt-ltb}
-use Rattle.std.proofs.lemmas.List.{append-nil, append_assoc, drop_at, length-append, get_or-append-add, get_or_past}
+use Rattle.std.specs.List.{flat_map, enumerate_from}
+use Rattle.std.proofs.lemmas.Bool.{eqb-true, ltb-false, leb-false, or_parts, not-false, cases_lt, cases_Bool, lt-ltb}
+use Rattle.std.proofs.lemmas.List.{append-nil, append_assoc, drop_at, take_at, length-append, length-drop, length-take-le, get_or-drop, get_or_past}
 use Rattle.p11_tape.specs.declared.fault.TapeFault.{TapeFault}
 use Rattle.p11_tape.specs.declared.fault.TapeFaultKind.TheVariants.{Memory, Stray, Count, Short, Wrap, Sum}
-use Rattle.p11_tape.specs.Block.{Block, block_bytes, placed_by, start_of}
-use Rattle.p11_tape.specs.Tape.{IsFront, IsEnd, Means, HasMeaning, start_by}
-use Rattle.p11_tape.specs.Fault.{wrong_of, HasFault, HasSomeFault, IsLongestFront, count_at, address_at}
-use Rattle.p11_tape.specs.Begins.{BeginsWith, IsWhole}
-use Rattle.p11_tape.proofs.BlockLemmas.{IsBytes, block_once, block_there, nothing_wrong, first_of_block, length-block_bytes}
-use Rattle.p11_tape.proofs.FrontLemmas.{IsStuck, front_part, front_whole, front_of_stuck, front_and_zeros}
-use Rattle.p11_tape.proofs.ReadLemmas.{HasRead, read_nothing, read_block, read_end, read_last, read_wrong, has_meaning}
+use Rattle.p11_tape.specs.Block.{Block, block_bytes, before_checksum, placed_by, IsDataBlock, IsLastBlock}
+use Rattle.p11_tape.specs.Tape.{IsFront, IsEnd, Means, start_by}
+use Rattle.p11_tape.specs.Fault.{wrong_of, count_at, address_at}
+use Rattle.p11_tape.specs.Reading.{Meaning, reading, read_on, block_read, and_then, end_with, placed_at, start_of}
+use Rattle.p11_tape.specs.Begins.{IsWhole, NoZeroFirst}
+use Rattle.p11_tape.proofs.BlockLemmas.{IsBytes, Splits, block_there, nothing_wrong, first_of_block, length-block_bytes, count_at-block, address_at-block, whole_block}
+use Rattle.p11_tape.proofs.ReadLemmas.{same_meaning, and_then_nothing, and_then_more, zeros_read, last_read, data_read, wrong_read, last_of, other_of, ended}
 
--- At an end nothing more can be read.
-end_stuck : (rest : List ℕ) (last : Option Block) → IsEnd rest last → IsStuck rest
-end_stuck rest None e = record {
-  no_zero = λ some. absurd (omega (arith, ap length e));
-  no_block = λ b after is same. absurd (omega (arith, ap length e, ap length same, length-append (block_bytes b) after, length-block_bytes b));
-}
-end_stuck rest (Some last) (after, is, e) = record {
-  no_zero = λ some is_zero. absurd (omega (arith, first_of_block last after, ap (λ xs. get_or xs 0 0) e));
-  no_block = λ b behind is_data same. let one = block_once last b after behind (sym e ∙ same) in
-      absurd (omega (arith, is.no_data, is_data.has_data, ap (λ x. length x.bytes) one.0));
-}
+-- A block begins with no zero, and is followed by what is after it.
+no_zero_block : (b : Block) (x : List ℕ) → NoZeroFirst (block_bytes b ++ x)
+no_zero_block b x some is_zero = absurd (omega (arith, first_of_block b x))
 
--- Two ends of one rest are one.
-same_end : (rest : List ℕ) (last other : Option Block) → IsEnd rest last → IsEnd rest other → last ≡ other
-same_end rest None None e f = refl
-same_end rest None (Some b) e (after, is, f) = absurd (omega (arith, ap length e, ap length f, length-append (block_bytes b) after, length-block_bytes b))
-same_end rest (Some b) None (after, is, f) e = absurd (omega (arith, ap length e, ap length f, length-append (block_bytes b) after, length-block_bytes b))
-same_end rest (Some b) (Some c) (after, is, e) (behind, is', f) = ap Some (block_once b c after behind (sym e ∙ f)).0
+some_block : (b : Block) (x : List ℕ) → 0 < length (block_bytes b ++ x)
+some_block b x = omega (arith, length-append (block_bytes b) x, length-block_bytes b)
 
--- Two fronts of one tape with stuck rests are one.
-same_front : (tape : List ℕ) (blocks others : List Block) (rest other : List ℕ) → IsStuck rest → IsStuck other → IsFront tape blocks rest → IsFront tape others other → (blocks ≡ others) × (rest ≡ other)
-same_front tape blocks others rest other stuck stuck' h h' =
-    let part = front_part tape others other blocks rest stuck h h' in
-    let none = front_of_stuck other part.others rest stuck' part.front in
-    (part.is ∙ ap (λ xs. others ++ xs) none.0 ∙ append-nil others, sym none.1)
+after_block : (b : Block) (x : List ℕ) → drop (count_at (block_bytes b ++ x) + 1) (block_bytes b ++ x) ≡ x
+after_block b x = drop_at (block_bytes b) x _ (omega (arith, length-block_bytes b, count_at-block b x))
 
-pub means_once : (tape : List ℕ) (p q : List (ℕ × ℕ)) (s t : Option ℕ) → Means tape p s → Means tape q t → (p ≡ q) × (s ≡ t)
-means_once tape p q s t h k =
-    let fronts = same_front tape h.blocks k.blocks h.is_tape.rest k.is_tape.rest (end_stuck _ _ h.is_tape.ends) (end_stuck _ _ k.is_tape.ends) h.is_tape.front k.is_tape.front in
-    let ends : h.last ≡ k.last = same_end h.is_tape.rest h.last k.last h.is_tape.ends (rw (fronts.1) k.is_tape.ends) in
-    (h.placed_is ∙ ap (flat_map placed_by) fronts.0 ∙ sym k.placed_is, h.start_is ∙ ap start_by ends ∙ sym k.start_is)
+-- Its data are what it places.
+data_of_block : (b : Block) (x : List ℕ) → take (length b.bytes) (drop 6 (block_bytes b ++ x)) ≡ b.bytes
+unfolding block_bytes before_checksum
+data_of_block b x = ap (take (length b.bytes)) (append_assoc b.bytes (b.checksum ∷ []) x) ∙ take_at b.bytes (b.checksum ∷ x) (length b.bytes) refl
 
--- the rest is the tail of the tape
-record IsBehind (tape rest : List ℕ) : Type 0 where
-  front : List ℕ
-  splits : tape ≡ front ++ rest
+placed_by_block : (b : Block) (x : List ℕ) → placed_at (block_bytes b ++ x) ≡ placed_by b
+placed_by_block b x =
+    let many : count_at (block_bytes b ++ x) - 6 ≡ length b.bytes = omega (arith, count_at-block b x) in
+    ap (λ a. enumerate_from a (take (count_at (block_bytes b ++ x) - 6) (drop 6 (block_bytes b ++ x)))) (address_at-block b x) ∙ ap (λ n. enumerate_from b.address (take n (drop 6 (block_bytes b ++ x)))) many ∙ ap (enumerate_from b.address) (data_of_block b x)
 
-front_behind : (tape : List ℕ) (blocks : List Block) (rest : List ℕ) → IsFront tape blocks rest → IsBehind tape rest
-front_behind tape [] rest (n, e) = record { front = replicate n 0; splits = e }
-front_behind tape (b ∷ blocks) rest (n, after, is, e, more) =
-    let inner = front_behind after blocks rest more in
+-- what is read of a front, and then the rest
+record FrontRead (at : ℕ) (tape : List ℕ) (blocks : List Block) (rest : List ℕ) : Type 0 where
+  behind : ℕ
+  reads : read_on 0 at tape ≡ and_then (flat_map placed_by blocks) (read_on 0 behind rest)
+
+front_read : (at : ℕ) (tape : List ℕ) (blocks : List Block) (rest : List ℕ) → IsFront tape blocks rest → FrontRead at tape blocks rest
+front_read at tape [] rest (n, e) = record { behind = at + n; reads = ap (read_on 0 at) e ∙ zeros_read n at rest ∙ sym (and_then_nothing _) }
+front_read at tape (b ∷ blocks) rest (n, after, is, e, more) =
+    let x = block_bytes b ++ after in
+    let k = at + n + (count_at x + 1) in
+    let placing = data_read (at + n) x (no_zero_block b after) (some_block b after) (nothing_wrong (at + n) b after is.is_block) (omega (arith, count_at-block b after, is.has_data)) in
+    let inner = front_read k after blocks rest more in
     record {
-      front = replicate n 0 ++ (block_bytes b ++ inner.front);
-      splits = e ∙ ap (λ xs. replicate n 0 ++ (block_bytes b ++ xs)) inner.splits ∙ ap (λ xs. replicate n 0 ++ xs) (sym (append_assoc (block_bytes b) inner.front rest)) ∙ sym (append_assoc (replicate n 0) (block_bytes b ++ inner.front) rest);
+      behind = inner.behind;
+      reads = ap (read_on 0 at) e ∙ zeros_read n at x ∙ placing ∙ ap (λ p. and_then p (read_on 0 k (drop (count_at x + 1) x))) (placed_by_block b after) ∙ ap (λ y. and_then (placed_by b) (read_on 0 k y)) (after_block b after) ∙ ap (and_then (placed_by b)) inner.reads ∙ and_then_more (placed_by b) (flat_map placed_by blocks) (read_on 0 inner.behind rest);
     }
 
-behind_drop : (tape rest : List ℕ) → IsBehind tape rest → drop (length tape - length rest) tape ≡ rest
-behind_drop tape rest h =
-    let len : length h.front ≡ length tape - length rest = omega (arith, ap length h.splits, length-append h.front rest) in
-    ap (drop (length tape - length rest)) h.splits ∙ drop_at h.front rest (length tape - length rest) len
+end_read : (at : ℕ) (rest : List ℕ) (last : Option Block) → IsEnd rest last → read_on 0 at rest ≡ end_with (start_by last)
+unfolding read_on
+end_read at rest None e = ap (read_on 0 at) e
+end_read at rest (Some b) (after, is, e) =
+    let six : count_at (block_bytes b ++ after) ≡ 6 = omega (arith, count_at-block b after, is.no_data) in
+    ap (read_on 0 at) e ∙ last_read at (block_bytes b ++ after) (no_zero_block b after) (some_block b after) (nothing_wrong at b after is.is_block) six ∙ ap (λ a. end_with (start_of a)) (address_at-block b after)
 
--- Two longest fronts leave the same.
-same_rest : (tape : List ℕ) (blocks others : List Block) (rest other : List ℕ) → IsLongestFront tape blocks rest → IsLongestFront tape others other → rest ≡ other
-same_rest tape blocks others rest other h k =
-    let len : length rest ≡ length other = omega (arith, h.longest others other k.front, k.longest blocks rest h.front) in
-    sym (behind_drop tape rest (front_behind tape blocks rest h.front)) ∙ ap (λ n. drop (length tape - n) tape) len ∙ behind_drop tape other (front_behind tape others other k.front)
-
-pub fault_once : (tape : List ℕ) (e f : TapeFault) → HasFault tape e → HasFault tape f → e ≡ f
-fault_once tape e f h k =
-    let same = same_rest tape h.blocks k.blocks h.rest k.rest h.front k.front in
-    let first : wrong_of (length tape - length h.rest) h.rest ≡ Some f = ap (λ rest. wrong_of (length tape - length rest) rest) same ∙ k.first in
-    cc
-
--- Nothing is wrong at an end.
-right_at_end : (at : ℕ) (rest : List ℕ) (last : Option Block) (fault : TapeFault) → 0 < length rest → IsEnd rest last → wrong_of at rest ≡ Some fault → ⊥
-right_at_end at rest None fault some e wrong = absurd (omega (arith, ap length e))
-right_at_end at rest (Some b) fault some (after, is, e) wrong =
-    let none : wrong_of at rest ≡ None = ap (wrong_of at) e ∙ nothing_wrong at b after is.is_block in cc
-
-pub means_or_fault_not_both : (tape : List ℕ) (p : List (ℕ × ℕ)) (s : Option ℕ) (f : TapeFault) → Means tape p s → HasFault tape f → ⊥
-means_or_fault_not_both tape p s f h k =
-    let part = front_part tape k.blocks k.rest h.blocks h.is_tape.rest (end_stuck _ _ h.is_tape.ends) h.is_tape.front k.front.front in
-    let whole = front_whole k.rest part.others h.is_tape.rest part.front (k.front.longest h.blocks h.is_tape.rest h.is_tape.front) in
-    right_at_end (length tape - length k.rest) k.rest h.last f k.more (rw (whole.1) h.is_tape.ends) k.first
+-- A tape of the grammar is read as what it means.
+pub means_read : (tape : List ℕ) (m : Meaning) → Means tape m → reading tape ≡ Ok m
+means_read tape m h =
+    let front = front_read 0 tape h.blocks h.is_tape.rest h.is_tape.front in
+    front.reads ∙ ap (and_then (flat_map placed_by h.blocks)) (end_read front.behind h.is_tape.rest h.last h.is_tape.ends) ∙ ended (flat_map placed_by h.blocks) (start_by h.last) ∙ same_meaning _ m.placed _ m.start (sym h.placed_is) (sym h.start_is)
 
 -- bytes with which nothing is wrong
 record IsRight (bytes : List ℕ) : Type 0 where
@@ -130,42 +105,121 @@ wrong_cases : (o : Option TapeFault) → (o ≡ None) ⊎ ((f : TapeFault) × (o
 wrong_cases None = inl refl
 wrong_cases (Some f) = inr (f, refl)
 
-bytes_behind : (front rest : List ℕ) → IsBytes (front ++ rest) → IsBytes rest
-bytes_behind front rest fits i = omega (arith, fits (length front + i), get_or-append-add front rest i 0)
-
-has_fault : (tape : List ℕ) (f : TapeFault) → HasFault tape f → HasSomeFault tape
-has_fault tape f h = record { fault = f; has = h }
-
--- what is left of a tape, if that is less than n, decides on it
-abbrev Decides_below : ℕ → List ℕ → Type 0
-Decides_below n tape = (rest : List ℕ) (placed : List (ℕ × ℕ)) → length rest < n → IsBytes rest → HasRead tape rest placed → HasMeaning tape ⊎ HasSomeFault tape
-
--- a block that begins what is left
-decided_at_block : (n : ℕ) (tape rest : List ℕ) (placed : List (ℕ × ℕ)) (address : ℕ) (content after : List ℕ) → Decides_below n tape → length rest ≤ n → IsBytes rest → HasRead tape rest placed →
-    BeginsWith rest address content after → HasMeaning tape ⊎ HasSomeFault tape
-decided_at_block n tape rest placed address [] after next less fits read found = inl (has_meaning tape placed (start_of address) (read_last tape rest placed address [] after read found refl))
-decided_at_block n tape rest placed address (b ∷ content) after next less fits read found =
-    let block : Block = record { address = address; bytes = b ∷ content; checksum = found.checksum } in
-    next after _ (omega (arith, ap length found.splits, length-append (block_bytes block) after, length-block_bytes block)) (bytes_behind (block_bytes block) after (rw found.splits at fits)) (read_block tape rest placed address (b ∷ content) after read found (omega arith))
-
-decided_by : (n : ℕ) (tape : List ℕ) → Decides_below n tape
-decided_by zero tape rest placed less fits read = absurd (omega arith)
-decided_by (suc n) tape [] placed less fits read = inl (has_meaning tape placed None (read_end tape [] placed read refl))
-decided_by (suc n) tape (zero ∷ rest) placed less fits read =
-    decided_by n tape rest placed (omega arith) (λ i. fits (suc i)) (record { blocks = read.blocks; front = front_and_zeros tape read.blocks 1 rest read.front; placed_is = read.placed_is })
-decided_by (suc n) tape (suc b ∷ rest) placed less fits read =
-    let at = length tape - length (suc b ∷ rest) in
-    elim (wrong_cases (wrong_of at (suc b ∷ rest))) [
-      | inl none ↦ let right = right_from_none at (suc b ∷ rest) none in
-          decided_at_block n tape (suc b ∷ rest) placed _ _ _ (decided_by n tape) (omega arith) fits read (block_there (suc b ∷ rest) fits right.whole right.within right.zero_sum)
-      | inr wrong ↦ inr (has_fault tape wrong.0 (read_wrong tape (suc b ∷ rest) placed wrong.0 read (λ _ e. absurd (omega arith)) (omega arith) wrong.1))
-    ]
-
 bytes_from_all : (bytes : List ℕ) → All (λ b. b < 256) bytes → IsBytes bytes
 bytes_from_all bytes h i = elim (cases_lt i (length bytes)) [ inl less ↦ h i 0 less | inr past ↦ rw (get_or_past bytes i 0 past) (omega arith) ]
 
-pub means_or_fault : (tape : List ℕ) → All (λ b. b < 256) tape → HasMeaning tape ⊎ HasSomeFault tape
-means_or_fault tape fits = decided_by (suc (length tape)) tape tape [] (omega arith) (bytes_from_all tape fits) (read_nothing tape)
+err_once : (f g : TapeFault) → ◌≡◌ {A = Result Meaning TapeFault} (Err f) (Err g) → f ≡ g
+err_once f g e = cc
+
+ok_not_err : (m : Meaning) (f : TapeFault) → ◌≡◌ {A = Result Meaning TapeFault} (Ok m) (Err f) → ⊥
+ok_not_err m f e = cc
+
+err_not_ok : (f : TapeFault) (m : Meaning) → ◌≡◌ {A = Result Meaning TapeFault} (Err f) (Ok m) → ⊥
+err_not_ok f m e = cc
+
+and_then_err : (placed : List (ℕ × ℕ)) (read : Result Meaning TapeFault) (f : TapeFault) → and_then placed read ≡ Err f → read ≡ Err f
+unfolding and_then
+and_then_err placed (Ok m) f e = absurd (cc)
+and_then_err placed (Err g) f e = e
+
+-- what was read and then the rest means something only if the rest does
+ok_once : (m n : Meaning) → ◌≡◌ {A = Result Meaning TapeFault} (Ok m) (Ok n) → m ≡ n
+ok_once m n e = cc
+
+record Rest (placed : List (ℕ × ℕ)) (read : Result Meaning TapeFault) (m : Meaning) : Type 0 where
+  rest : Meaning
+  reads : read ≡ Ok rest
+  placed_is : m.placed ≡ placed ++ rest.placed
+  start_is : m.start ≡ rest.start
+
+rest_of : (placed : List (ℕ × ℕ)) (read : Result Meaning TapeFault) (m : Meaning) → and_then placed read ≡ Ok m → Rest placed read m
+unfolding and_then
+rest_of placed (Ok rest) m e =
+    let same = ok_once (record { placed = placed ++ rest.placed; start = rest.start }) m e in
+    record { rest = rest; reads = refl; placed_is = ap (λ x. x.placed) (sym same); start_is = ap (λ x. x.start) (sym same) }
+rest_of placed (Err f) m e = absurd (cc)
+
+-- A zero before a tape changes nothing.
+zero_front : (tape : List ℕ) (blocks : List Block) (rest : List ℕ) → IsFront tape blocks rest → IsFront (0 ∷ tape) blocks rest
+zero_front tape [] rest (n, e) = (suc n, ap (λ xs. 0 ∷ xs) e)
+zero_front tape (b ∷ blocks) rest (n, after, is, e, more) = (suc n, after, is, ap (λ xs. 0 ∷ xs) e, more)
+
+means_zero : (tape : List ℕ) (m : Meaning) → Means tape m → Means (0 ∷ tape) m
+means_zero tape m h = record {
+  blocks = h.blocks;
+  last = h.last;
+  is_tape = record { rest = h.is_tape.rest; front = zero_front tape h.blocks h.is_tape.rest h.is_tape.front; ends = h.is_tape.ends };
+  placed_is = h.placed_is;
+  start_is = h.start_is;
+}
+
+-- At its end a tape means nothing more.
+means_end : (m : Meaning) → end_with None ≡ Ok m → Means [] m
+means_end m e =
+    let same = ok_once (record { placed = []; start = None }) m e in
+    record { blocks = []; last = None; is_tape = record { rest = []; front = (0, refl); ends = refl }; placed_is = ap (λ x. x.placed) (sym same); start_is = ap (λ x. x.start) (sym same) }
+
+-- The block that is there is the last,
+means_last : (at : ℕ) (bytes : List ℕ) (m : Meaning) (content after : List ℕ) → NoZeroFirst bytes → 0 < length bytes → wrong_of at bytes ≡ None → count_at bytes ≡ 6 → Splits bytes (address_at bytes) content after → length content ≡ 0 → read_on 0 at bytes ≡ Ok m → Means bytes m
+means_last at bytes m content after no_zero some right six s empty e =
+    let b : Block = record { address = address_at bytes; bytes = content; checksum = s.checksum } in
+    let same = ok_once (record { placed = []; start = start_of (address_at bytes) }) m (sym (last_read at bytes no_zero some right six) ∙ e) in
+    record {
+      blocks = [];
+      last = Some b;
+      is_tape = record { rest = bytes; front = (0, refl); ends = (after, record { is_block = s.is_block; no_data = omega arith }, s.splits) };
+      placed_is = ap (λ x. x.placed) (sym same);
+      start_is = ap (λ x. x.start) (sym same);
+    }
+
+-- or has data and is followed by the rest of the tape.
+means_data : (bytes after content : List ℕ) (address : ℕ) (m n : Meaning) → Splits bytes address content after → 0 < length content → Means after n → m.placed ≡ enumerate_from address content ++ n.placed → m.start ≡ n.start → Means bytes m
+means_data bytes after content address m n s some h placed start =
+    let b : Block = record { address = address; bytes = content; checksum = s.checksum } in
+    record {
+      blocks = b ∷ h.blocks;
+      last = h.last;
+      is_tape = record { rest = h.is_tape.rest; front = (0, after, record { is_block = s.is_block; has_data = omega arith }, s.splits, h.is_tape.front); ends = h.is_tape.ends };
+      placed_is = placed ∙ ap (λ xs. enumerate_from address content ++ xs) h.placed_is;
+      start_is = start ∙ h.start_is;
+    }
+
+-- what is less than n bytes means what is read
+abbrev Means_below : ℕ → Type 0
+Means_below n = (at : ℕ) (tape : List ℕ) (m : Meaning) → length tape < n → IsBytes tape → read_on 0 at tape ≡ Ok m → Means tape m
+
+means_block : (n at : ℕ) (bytes : List ℕ) (m : Meaning) → Means_below n → length bytes ≤ n → IsBytes bytes → NoZeroFirst bytes → 0 < length bytes → wrong_of at bytes ≡ None → read_on 0 at bytes ≡ Ok m → Means bytes m
+means_block n at bytes m next less fits no_zero some none e =
+    let right = right_from_none at bytes none in
+    let s = block_there bytes fits right.whole right.within right.zero_sum in
+    let k = count_at bytes in
+    let content = take (k - 6) (drop 6 bytes) in
+    let after = drop (k + 1) bytes in
+    let header : 6 ≤ k = right.whole.header in
+    let whole : k < length bytes = right.whole.whole in
+    let content_length : length content ≡ k - 6 = length-take-le (k - 6) (drop 6 bytes) (omega (arith, length-drop 6 bytes)) in
+    elim (cases_lt 6 k) [
+      | inl more ↦
+          let rest = rest_of (placed_at bytes) (read_on 0 (at + (k + 1)) after) m (sym (data_read at bytes no_zero some none more) ∙ e) in
+          let inner = next (at + (k + 1)) after rest.rest (omega (arith, length-drop (k + 1) bytes)) (λ i. omega (arith, fits (k + 1 + i), get_or-drop (k + 1) bytes i)) rest.reads in
+          means_data bytes after content (address_at bytes) m rest.rest s (omega arith) inner rest.placed_is rest.start_is
+      | inr none_left ↦ means_last at bytes m content after no_zero some none (omega arith) s (omega arith) e
+    ]
+
+means_by : (n : ℕ) → Means_below n
+unfolding read_on
+means_by zero at tape m less fits e = absurd (omega arith)
+means_by (suc n) at [] m less fits e = means_end m e
+means_by (suc n) at (zero ∷ rest) m less fits e = means_zero rest m (means_by n (at + 1) rest m (omega arith) (λ i. fits (suc i)) e)
+means_by (suc n) at (suc b ∷ rest) m less fits e =
+    elim (wrong_cases (wrong_of at (suc b ∷ rest))) [
+      | inl none ↦ means_block n at (suc b ∷ rest) m (means_by n) (omega arith) fits (λ _ z. absurd (omega arith)) (omega arith) none e
+      | inr wrong ↦ absurd (err_not_ok wrong.0 m (sym (wrong_read at (suc b ∷ rest) wrong.0 (λ _ z. absurd (omega arith)) (omega arith) wrong.1) ∙ e))
+    ]
+
+-- A tape means by the grammar what is read.
+pub read_means : (tape : List ℕ) (m : Meaning) → All (λ b. b < 256) tape → reading tape ≡ Ok m → Means tape m
+read_means tape m fits e = means_by (suc (length tape)) 0 tape m (omega arith) (bytes_from_all tape fits) e
 
 -- A fault of the bytes is no want of memory.
 some_once : (e f : TapeFault) → Some e ≡ Some f → e ≡ f
@@ -203,15 +257,25 @@ wrong_kind : (at : ℕ) (bytes : List ℕ) → NoMemory (wrong_of at bytes)
 unfolding wrong_of
 wrong_kind at bytes = search (rule, last_rule, stray_apart, count_apart, short_apart, wrap_apart, sum_apart) depth 9
 
-pub fault_no_memory : (tape : List ℕ) (f : TapeFault) → HasFault tape f → f.kind ≡ Memory → ⊥
+block_kind : (wrong : Option TapeFault) (bytes : List ℕ) (rest : Result Meaning TapeFault) (f : TapeFault) → NoMemory wrong → (rest ≡ Err f → f.kind ≡ Memory → ⊥) → block_read wrong bytes rest ≡ Err f → f.kind ≡ Memory → ⊥
 unfolding NoMemory
-fault_no_memory tape f h = wrong_kind (length tape - length h.rest) h.rest f h.first
+block_kind (Some g) bytes rest f apart next e m = apart g refl (ap (λ x. x.kind) (err_once g f e) ∙ m)
+block_kind None bytes rest f apart next e m = elim (cases_Bool (eqb (count_at bytes) 6)) [
+  | inl six ↦ ok_not_err _ f (sym (last_of _ _ _ six) ∙ e)
+  | inr more ↦ next (and_then_err (placed_at bytes) rest f (sym (other_of _ _ _ more) ∙ e)) m
+]
 
--- A tape has no fault.
-pub meaning_no_fault : (tape : List ℕ) (f : TapeFault) → HasMeaning tape → HasFault tape f → ⊥
-meaning_no_fault tape f h has = means_or_fault_not_both tape h.placed h.start f h.means has
+read_kind : (n at : ℕ) (bytes : List ℕ) (f : TapeFault) → read_on n at bytes ≡ Err f → f.kind ≡ Memory → ⊥
+unfolding read_on
+read_kind n at [] f e m = ok_not_err _ f e
+read_kind (suc n) at (b ∷ rest) f e m = read_kind n (at + 1) rest f e m
+read_kind zero at (zero ∷ rest) f e m = read_kind zero (at + 1) rest f e m
+read_kind zero at (suc b ∷ rest) f e m = block_kind (wrong_of at (suc b ∷ rest)) (suc b ∷ rest) (read_on (count_at (suc b ∷ rest)) (at + 1) rest) f (wrong_kind at (suc b ∷ rest)) (read_kind (count_at (suc b ∷ rest)) (at + 1) rest f) e m
+
+pub fault_no_memory : (tape : List ℕ) (f : TapeFault) → reading tape ≡ Err f → f.kind ≡ Memory → ⊥
+fault_no_memory tape f e m = read_kind 0 0 tape f e m
 
 -- of a tape, a fault that is of the bytes or for want of memory is the second
-pub only_memory : (tape : List ℕ) (f memory : TapeFault) → HasMeaning tape → (f ≡ memory) ⊎ HasFault tape f → f ≡ memory
-only_memory tape f memory h (inl e) = e
-only_memory tape f memory h (inr has) = absurd (meaning_no_fault tape f h has)
+pub only_memory : (tape : List ℕ) (m : Meaning) (f memory : TapeFault) → reading tape ≡ Ok m → (f ≡ memory) ⊎ (reading tape ≡ Err f) → f ≡ memory
+only_memory tape m f memory h (inl e) = e
+only_memory tape m f memory h (inr wrong) = absurd (ok_not_err m f (sym h ∙ wrong))

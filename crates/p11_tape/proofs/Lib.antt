@@ -1,6 +1,5 @@
 mod ZeroLemmas
 mod BlockLemmas
-mod FrontLemmas
 mod ReadLemmas
 mod LawLemmas
 mod WriterLemmas

@@ -1,14 +1,15 @@
 -- What follows the last block, and what a writer makes.
-use Rattle.std.proofs.Common.{◌≡◌, ℕ, ◌<◌, ◌≤◌, ◌+◌, ◌-◌, ◌%◌, ◌^◌, List, [], ◌∷◌, ◌++◌, length, replicate, sum, Option, Some, None, map, refl, ap, arith, ◌∙◌}
+use Rattle.std.proofs.Common.{◌≡◌, ℕ, ◌<◌, ◌≤◌, ◌+◌, ◌-◌, ◌%◌, ◌^◌, List, [], ◌∷◌, ◌++◌, length, replicate, sum, Some, None, Ok, map, refl, sym, ap, arith, ◌∙◌}
 use Rattle.std.specs.Prelude.{All}
 use Rattle.std.specs.List.{flat_map, enumerate_from}
 use Rattle.std.proofs.lemmas.List.{append_assoc}
 use Rattle.std.proofs.lemmas.List.Elements.{All-head, All-tail}
 use Rattle.std.proofs.lemmas.List.Sums.{fold-append}
-use Rattle.p11_tape.specs.Block.{Block, block_bytes, before_checksum, IsBlock, IsDataBlock, IsLastBlock, placed_by, start_of}
-use Rattle.p11_tape.specs.Tape.{IsFront, Means}
+use Rattle.p11_tape.specs.Block.{Block, block_bytes, before_checksum, IsBlock, IsDataBlock, IsLastBlock, placed_by}
+use Rattle.p11_tape.specs.Reading.{reading, start_of}
+use Rattle.p11_tape.specs.Tape.{IsFront}
 use Rattle.p11_tape.specs.Writer.{Piece, IsPiece, piece_bytes, written, pieces_placed, made_block, checksum_of}
-use Rattle.p11_tape.proofs.LawLemmas.{means_once}
+use Rattle.p11_tape.proofs.LawLemmas.{means_read}
 
 -- A front stays one whatever follows its rest.
 front_append : (tape : List ℕ) (blocks : List Block) (rest more : List ℕ) → IsFront tape blocks rest → IsFront (tape ++ more) blocks (rest ++ more)
@@ -16,22 +17,20 @@ front_append tape [] rest more (n, e) = (n, ap (λ xs. xs ++ more) e ∙ append_
 front_append tape (b ∷ blocks) rest more (n, after, is, e, inner) =
     (n, after ++ more, is, ap (λ xs. xs ++ more) e ∙ append_assoc (replicate n 0) (block_bytes b ++ after) more ∙ ap (λ xs. replicate n 0 ++ xs) (append_assoc (block_bytes b) after more), front_append after blocks rest more inner)
 
--- A tape with a last block means what its blocks place, and gives their start.
+-- A tape with a last block is read as what its blocks place and their start.
 with_last : (front : List ℕ) (blocks : List Block) (last : Block) (after : List ℕ) → IsFront front blocks [] → IsLastBlock last →
-    Means (front ++ (block_bytes last ++ after)) (flat_map placed_by blocks) (start_of last.address)
-with_last front blocks last after h is = record {
+    reading (front ++ (block_bytes last ++ after)) ≡ Ok (record { placed = flat_map placed_by blocks; start = start_of last.address })
+with_last front blocks last after h is = means_read _ _ (record {
   blocks = blocks;
   last = Some last;
   is_tape = record { rest = block_bytes last ++ after; front = front_append front blocks [] (block_bytes last ++ after) h; ends = (after, is, refl) };
   placed_is = refl;
   start_is = refl;
-}
+})
 
-pub means_whatever_follows : (front : List ℕ) (blocks : List Block) (last : Block) (after other : List ℕ) (p : List (ℕ × ℕ)) (s : Option ℕ) → IsFront front blocks [] → IsLastBlock last →
-    Means (front ++ (block_bytes last ++ after)) p s → Means (front ++ (block_bytes last ++ other)) p s
-means_whatever_follows front blocks last after other p s h is means =
-    let once = means_once _ p (flat_map placed_by blocks) s (start_of last.address) means (with_last front blocks last after h is) in
-    rw (once.0, once.1) (with_last front blocks last other h is)
+pub read_whatever_follows : (front : List ℕ) (blocks : List Block) (last : Block) (after other : List ℕ) → IsFront front blocks [] → IsLastBlock last →
+    reading (front ++ (block_bytes last ++ after)) ≡ reading (front ++ (block_bytes last ++ other))
+read_whatever_follows front blocks last after other h is = with_last front blocks last after h is ∙ sym (with_last front blocks last other h is)
 
 -- a checksum completes a sum
 completes : (n : ℕ) → (n + (256 - n % 256) % 256) % 256 ≡ 0
@@ -67,17 +66,17 @@ made_placed : (pieces : List Piece) → pieces_placed pieces ≡ flat_map placed
 made_placed [] = refl
 made_placed (p ∷ pieces) = ap (λ xs. enumerate_from p.address p.bytes ++ xs) (made_placed pieces)
 
-pub written_means : (zeros : ℕ) (pieces : List Piece) → All IsPiece pieces → Means (written zeros pieces) (pieces_placed pieces) None
-written_means zeros pieces all = record {
+pub written_read : (zeros : ℕ) (pieces : List Piece) → All IsPiece pieces → reading (written zeros pieces) ≡ Ok (record { placed = pieces_placed pieces; start = None })
+written_read zeros pieces all = means_read _ _ (record {
   blocks = made_blocks pieces;
   last = None;
   is_tape = record { rest = []; front = written_front zeros pieces all; ends = refl };
   placed_is = made_placed pieces;
   start_is = refl;
-}
+})
 
-pub written_means_with_last : (zeros : ℕ) (pieces : List Piece) (address : ℕ) (after : List ℕ) → All IsPiece pieces → address < 2 ^ 16 →
-    Means (written zeros pieces ++ (block_bytes (made_block address []) ++ after)) (pieces_placed pieces) (start_of address)
-written_means_with_last zeros pieces address after all fits =
+pub written_read_with_last : (zeros : ℕ) (pieces : List Piece) (address : ℕ) (after : List ℕ) → All IsPiece pieces → address < 2 ^ 16 →
+    reading (written zeros pieces ++ (block_bytes (made_block address []) ++ after)) ≡ Ok (record { placed = pieces_placed pieces; start = start_of address })
+written_read_with_last zeros pieces address after all fits =
     let is : IsLastBlock (made_block address []) = record { is_block = made_sound address [] (omega arith) fits (omega arith); no_data = refl } in
     rw (made_placed pieces) (with_last (written zeros pieces) (made_blocks pieces) (made_block address []) after (written_front zeros pieces all) is)

@@ -1,5 +1,5 @@
 -- A block of a tape in the absolute binary format of the PDP-11 paper tape software: its parts and its bytes.
-use Rattle.std.specs.Prelude.{◌≡◌, ℕ, ◌+◌, ◌/◌, ◌%◌, ◌^◌, ◌<◌, ◌≤◌, nat_eq, List, [], ◌∷◌, ◌++◌, length, sum, Option, Some, None, if◌then◌else◌}
+use Rattle.std.specs.Prelude.{◌≡◌, ℕ, ◌+◌, ◌/◌, ◌%◌, ◌^◌, ◌<◌, ◌≤◌, List, [], ◌∷◌, ◌++◌, length, sum}
 use Rattle.std.specs.List.{enumerate_from}
 
 -- What differs from block to block: the address of its first data byte, its data bytes, and its checksum.
@@ -44,7 +44,3 @@ pub record IsLastBlock (block : Block) : Type 0 where
 -- The data bytes of a block, each with its address: they lie one behind another from the block's address on.
 abbrev pub placed_by : Block → List (ℕ × ℕ)
 placed_by block = enumerate_from block.address block.bytes
-
--- The start address that a last block gives: its own address, or none if that is odd.
-abbrev pub start_of : ℕ → Option ℕ
-start_of address = if nat_eq (address % 2) 0 then Some address else None

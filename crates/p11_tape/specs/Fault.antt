@@ -1,10 +1,8 @@
--- The fault of bytes that are no tape: the first thing wrong behind the longest front.
-use Rattle.std.specs.Prelude.{◌≡◌, ℕ, ◌+◌, ◌-◌, ◌*◌, ◌%◌, ◌^◌, ◌<◌, ◌≤◌, nat_eq, nat_lt, nat_le, not, ◌&&◌, ◌||◌, List, length, take, sum, slice_index, Option, Some, None, if◌then◌else◌}
+-- What can be wrong where a block of a tape should begin.
+use Rattle.std.specs.Prelude.{ℕ, ◌+◌, ◌-◌, ◌*◌, ◌%◌, ◌^◌, nat_eq, nat_lt, nat_le, not, ◌&&◌, ◌||◌, List, length, take, sum, slice_index, Option, Some, None, if◌then◌else◌}
 use Rattle.p11_tape.specs.declared.fault.TapeFaultKind.{TapeFaultKind}
 use Rattle.p11_tape.specs.declared.fault.TapeFaultKind.TheVariants.{Stray, Count, Short, Wrap, Sum}
 use Rattle.p11_tape.specs.declared.fault.TapeFault.{TapeFault}
-use Rattle.p11_tape.specs.Block.{Block}
-use Rattle.p11_tape.specs.Tape.{IsFront}
 
 abbrev pub fault : TapeFaultKind → ℕ → TapeFault
 fault kind at = record { kind = kind; at = at }
@@ -36,21 +34,3 @@ wrong_of at bytes =
     -- the bytes don't sum to 0 modulo 2^8: the checksum
     if not (nat_eq (sum (take (count_at bytes + 1) bytes) % 2 ^ 8) 0) then Some (fault Sum (at + count_at bytes)) else
     None)))))
-
--- No other front leaves less of the tape.
-pub record IsLongestFront (tape : List ℕ) (blocks : List Block) (rest : List ℕ) : Type 0 where
-  pub front : IsFront tape blocks rest
-  pub longest : (others : List Block) (other : List ℕ) → IsFront tape others other → length rest ≤ length other
-
--- Behind the longest front there is more, and this is the first thing wrong with it.
-pub record HasFault (tape : List ℕ) (fault : TapeFault) : Type 0 where
-  pub blocks : List Block
-  pub rest : List ℕ
-  pub front : IsLongestFront tape blocks rest
-  pub more : 0 < length rest
-  pub first : wrong_of (length tape - length rest) rest ≡ Some fault
-
--- The bytes have a fault.
-pub record HasSomeFault (tape : List ℕ) : Type 0 where
-  pub fault : TapeFault
-  pub has : HasFault tape fault

@@ -1,5 +1,6 @@
 pub mod Block
-pub mod Tape
 pub mod Fault
+pub mod Reading
+pub mod Tape
 pub mod Writer
 pub mod Begins

@@ -1,7 +1,8 @@
--- An absolute tape: the grammar of its bytes, and what it means.
+-- The grammar of an absolute tape, and what it gives a tape to mean: another way to say what reading says.
 use Rattle.std.specs.Prelude.{◌≡◌, ℕ, List, [], ◌∷◌, ◌++◌, replicate, Option, Some, None}
 use Rattle.std.specs.List.{flat_map}
-use Rattle.p11_tape.specs.Block.{Block, block_bytes, IsDataBlock, IsLastBlock, placed_by, start_of}
+use Rattle.p11_tape.specs.Block.{Block, block_bytes, IsDataBlock, IsLastBlock, placed_by}
+use Rattle.p11_tape.specs.Reading.{Meaning, start_of}
 
 -- A tape begins with zeros, then any number of data blocks, each followed by zeros; the rest comes after those.
 abbrev pub IsFront : List ℕ → List Block → List ℕ → Type 0
@@ -26,16 +27,10 @@ abbrev pub start_by : Option Block → Option ℕ
 start_by None = None
 start_by (Some block) = start_of block.address
 
--- The bytes are a tape, and mean these data bytes, each with its address, in tape order, and this start or none.
-pub record Means (tape : List ℕ) (placed : List (ℕ × ℕ)) (start : Option ℕ) : Type 0 where
+-- The bytes are a tape, and this is what it means.
+pub record Means (tape : List ℕ) (meaning : Meaning) : Type 0 where
   pub blocks : List Block
   pub last : Option Block
   pub is_tape : IsTape tape blocks last
-  pub placed_is : placed ≡ flat_map placed_by blocks
-  pub start_is : start ≡ start_by last
-
--- The bytes are a tape.
-pub record HasMeaning (tape : List ℕ) : Type 0 where
-  pub placed : List (ℕ × ℕ)
-  pub start : Option ℕ
-  pub means : Means tape placed start
+  pub placed_is : meaning.placed ≡ flat_map placed_by blocks
+  pub start_is : meaning.start ≡ start_by last

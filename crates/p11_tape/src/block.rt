@@ -1,5 +1,5 @@
 // One block of a tape, and the zeros between blocks.
-ghost use Rattle.std.specs.Prelude.{◌≡◌, ◌≢◌, ◌+◌, ◌-◌, ◌*◌, ◌%◌, ◌<◌, ◌≤◌, ◌^◌, ℕ, List, length, sum, slice_index, replicate, ◌++◌, Some, IfOk, IfErr};
+ghost use Rattle.std.specs.Prelude.{◌≡◌, ◌≢◌, ◌+◌, ◌-◌, ◌*◌, ◌%◌, ◌<◌, ◌≤◌, ◌^◌, ℕ, List, length, sum, slice_index, replicate, ◌++◌, Some, None, IfOk, IfErr};
 ghost use Rattle.p11_tape.specs.Fault.{fault, wrong_of, word_at, count_at};
 ghost use Rattle.p11_tape.specs.Begins.{BeginsWith, BeginsWithZeros, IsWhole};
 

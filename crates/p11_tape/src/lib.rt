@@ -11,7 +11,6 @@ mod tape;
 pub use bytes::TapeBytes;
 pub use fault::{TapeFault, TapeFaultKind};
 pub use laws::{
-    after_the_last_block, fault_or_meaning, one_fault, one_meaning, written_tape,
-    written_tape_with_last_block,
+    after_the_last_block, tapes_are_read_by_the_grammar, written_tape, written_tape_with_last_block,
 };
 pub use tape::{Tape, read_tape};

@@ -1,9 +1,8 @@
 // A whole tape.
-ghost use Rattle.std.specs.Prelude.{◌≡◌, ◌≢◌, ℕ, ◌+◌, ◌<◌, ◌≤◌, ◌++◌, ◌⊎◌, List, Option, [], length, IfOk, IfErr, OnOk, MatchResult, Err};
+ghost use Rattle.std.specs.Prelude.{◌≡◌, ◌≢◌, ℕ, ◌+◌, ◌<◌, ◌≤◌, ◌++◌, ◌⊎◌, List, [], length, IfOk, IfErr, OnOk, Ok, Err};
 ghost use Rattle.std.specs.List.{enumerate_from};
-ghost use Rattle.p11_tape.specs.Block.{start_of};
-ghost use Rattle.p11_tape.specs.Tape.{Means, HasMeaning};
-ghost use Rattle.p11_tape.specs.Fault.{HasFault, fault};
+ghost use Rattle.p11_tape.specs.Fault.{fault};
+ghost use Rattle.p11_tape.specs.Reading.{Meaning, reading, start_of};
 
 use crate::block::{after_zeros, next_block};
 use crate::bytes::TapeBytes;
@@ -32,8 +31,8 @@ fn start_at(address: u16) -> Option<u16>
 
 /// Counts the data bytes of a tape, or finds its first fault. This takes no memory.
 fn check(tape: &[u8]) -> Result<usize, TapeFault>
-    ensures ok { IfOk result (λ count. (meaning : HasMeaning tape.now) × (length meaning.placed ≡ count)) }
-    ensures err { IfErr result (λ e. HasFault tape.now e) }
+    ensures ok { IfOk result (λ count. (meaning : Meaning) × (reading tape.now ≡ Ok meaning) × (length meaning.placed ≡ count)) }
+    ensures err { IfErr result (λ e. reading tape.now ≡ Err e) }
 {
     let mut count = 0;
     let mut rest = after_zeros(tape);
@@ -67,8 +66,8 @@ fn place<A: Allocator>(
 /// Puts the data of a whole tape into an empty list, and answers its start address.
 fn fill<A: Allocator>(placed: &mut Vec<(u16, u8), A>, tape: &[u8]) -> Result<Option<u16>, TapeFault>
     requires { placed.old.items ≡ [] }
-    ensures ok { IfOk result (λ start. Means tape.now placed.new.items start) }
-    ensures err { IfErr result (λ e. (e ≡ fault TapeFaultKind.Memory 0) ⊎ HasFault tape.now e) }
+    ensures ok { IfOk result (λ start. reading tape.now ≡ Ok (record { placed = placed.new.items; start = start })) }
+    ensures err { IfErr result (λ e. (e ≡ fault TapeFaultKind.Memory 0) ⊎ (reading tape.now ≡ Err e)) }
 {
     let mut rest = after_zeros(tape);
     while !rest.is_empty() {
@@ -89,16 +88,13 @@ fn fill<A: Allocator>(placed: &mut Vec<(u16, u8), A>, tape: &[u8]) -> Result<Opt
 /// Bytes that are no such tape are refused as a whole, with the first fault and its offset in bytes. A tape is
 /// refused for want of memory alone, as `Memory` at 0.
 pub fn read_tape<A: Allocator>(alloc: A, tape: &[u8]) -> Result<Tape<A>, TapeFault>
-    // What is read is the meaning of a tape.
-    ensures read { IfOk result (λ t. Means tape.now t.bytes t.start) }
-    // What is a tape is read, unless memory runs out.
-    ensures only { (placed : List (ℕ × ℕ)) (start : Option ℕ) → Means tape.now placed start →
-        MatchResult result (λ t. (t.bytes ≡ placed) × (t.start ≡ start)) (λ e. e ≡ fault TapeFaultKind.Memory 0) }
+    // What is read is what the tape means.
+    ensures read { IfOk result (λ t. reading tape.now ≡ Ok (record { placed = t.bytes; start = t.start })) }
     // What is refused has that fault,
-    ensures refused { IfErr result (λ e. e.kind ≢ TapeFaultKind.Memory → HasFault tape.now e) }
-    // and what has a fault is refused with it.
-    ensures faulty { (e : TapeFault) → HasFault tape.now e → result ≡ Err e }
-    ensures memory { IfErr result (λ e. e.kind ≡ TapeFaultKind.Memory → (e.at ≡ 0) × HasMeaning tape.now) }
+    ensures refused { IfErr result (λ e. e.kind ≢ TapeFaultKind.Memory → reading tape.now ≡ Err e) }
+    // or is a tape, and memory ran out.
+    ensures memory { IfErr result (λ e. e.kind ≡ TapeFaultKind.Memory →
+        (e.at ≡ 0) × (meaning : Meaning) × (reading tape.now ≡ Ok meaning)) }
 {
     let count = check(tape)?;
     let mut placed = Vec::with_capacity(alloc, count)?;

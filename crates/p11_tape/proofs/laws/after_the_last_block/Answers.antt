@@ -1,5 +1,5 @@
-use Rattle.p11_tape.proofs.WriterLemmas.{means_whatever_follows}
+use Rattle.p11_tape.proofs.WriterLemmas.{read_whatever_follows}
 use Rattle.p11_tape.proofs.laws.after_the_last_block.Goals as goal
 
 pub returns : goal.returns
-returns c = means_whatever_follows
+returns c = read_whatever_follows
