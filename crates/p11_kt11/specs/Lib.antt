@@ -5,4 +5,5 @@ pub mod Management
 pub mod Kept
 pub mod Translation
 pub mod Registers
+pub mod Window
 pub mod Laws

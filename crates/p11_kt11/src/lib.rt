@@ -15,6 +15,7 @@ mod page;
 mod reference;
 mod register;
 mod status;
+mod window;
 
 pub use entry::{Entries, Entry};
 pub use kt11::Kt11;
