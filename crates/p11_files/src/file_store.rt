@@ -46,7 +46,7 @@ impl<'a, L: Ledger> FileStore<'a, L> {
 }
 
 impl<'a, L: Ledger> Store for FileStore<'a, L> {
-    ghost state = { λ s. record { files = None; refusals = s.refusals } };
+    ghost state = { λ s. record { files = None; refusals = s.refusals; calls = None } };
 
     fn fetch<A: Allocator>(&mut self, alloc: A, name: &[u8]) -> Result<Vec<u8, A>, StoreError> {
         match read_file(self.rt, alloc, name) {

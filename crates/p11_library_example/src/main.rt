@@ -5,7 +5,8 @@
 ghost use Rattle.std.specs.Prelude.{◌≡◌, ◌<◌};
 
 use p11_panel::{
-    Answer, Command, Config, MemoryStore, NoMemory, Panel, Store, Words, play, session,
+    Answer, Command, Config, MemoryStore, NoMemory, Panel, StdReader, StdWriter, Store, Words,
+    play, session,
 };
 use std::alloc::{AllocError, Global};
 use std::io;
@@ -89,8 +90,11 @@ fn answers_counted<L: Ledger>(
     if store.put(file.0, file.1).is_err() {
         return Ok(written);
     }
-    let mut reader = script;
-    match session(alloc, &mut panel, &mut store, &mut reader, &mut written) {
+    let mut reader = StdReader { inner: script };
+    let mut writer = StdWriter {
+        inner: &mut written,
+    };
+    match session(alloc, &mut panel, &mut store, &mut reader, &mut writer) {
         Ok(_) => Ok(written),
         Err(_) => Err(NoMemory),
     }

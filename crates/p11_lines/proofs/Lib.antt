@@ -1,3 +1,4 @@
+pub mod Calls
 pub mod Escapes
 pub mod Lists
 pub mod Numbers

@@ -1,58 +1,57 @@
 -- What has been written so far, and what is left.
-use Rattle.std.proofs.Common.{rules, ◌≡◌, ◌≤◌, ◌-◌, ◌+◌, ◌*◌, ◌%◌, ◌<◌, get_or, add-one, drop-cons, arith, ℕ, List, [], ◌++◌, length, take, drop, Option, Some, None, refl, sym, ap, subst, ◌∙◌, append_assoc, append-nil, take-append-drop, codes, ◌∷◌}
+use Rattle.std.proofs.Common.{rules, ◌≡◌, ◌≤◌, ◌-◌, ◌+◌, ◌*◌, ◌%◌, ◌<◌, get_or, add-one, drop-cons, arith, ℕ, List, [], ◌++◌, length, take, drop, Option, refl, sym, ap, subst, ◌∙◌, append_assoc, append-nil, take-append-drop, codes, ◌∷◌}
 use Rattle.std.proofs.lemmas.List.{nil_from_length, take_all, drop_all, length-drop, length-append}
-use Rattle.std.specs.Io.KnownBytes.{Appends, Keeps}
-use Rattle.std.proofs.KnownBytes.{Appends-nil, Appends-trans}
 use Rattle.std.specs.List.{flat_map}
 use Rattle.std.specs.Prelude.{Result, Ok, Err, OnOk, OnErr, false}
 use Rattle.std.specs.Result.{is_ok, IsErr}
 use Rattle.p11_lines.specs.AnswerText.{six_octals, exam_text, exam_texts, typed_text, drive_text, drives_text}
 use Rattle.p11_lines.specs.declared.answer.DriveShown.{DriveShown}
 use Rattle.p11_lines.specs.Escapes.{escaped}
+use Rattle.p11_lines.specs.Writers.{WriterState, Writes}
 use Rattle.p11_lines.specs.Written.{Wrote, AppendsFront, Puts}
 use Rattle.p11_lines.specs.declared.output.Broken.{Broken}
+use Rattle.p11_lines.proofs.Calls.{Writes-none, Writes-trans}
 
-pub Wrote-none : (a : Option (List ℕ)) (text : List ℕ) → Wrote a a text text
-Wrote-none a text = record { front = []; written = Appends-nil a; split = refl }
+pub Wrote-none : (a : WriterState) (text : List ℕ) → Wrote a a text text
+Wrote-none a text = record { front = []; written = Writes-none a; split = refl }
 
 -- so many bytes more
-pub Wrote-more : (a b c : Option (List ℕ)) (text rest : List ℕ) (n : ℕ) → Wrote a b text rest → Appends b c (take n rest) → Wrote a c text (drop n rest)
+pub Wrote-more : (a b c : WriterState) (text rest : List ℕ) (n : ℕ) → Wrote a b text rest → Writes b c (take n rest) [] → Wrote a c text (drop n rest)
 Wrote-more a b c text rest n so_far more = record {
   front = so_far.front ++ take n rest;
-  written = Appends-trans a b c so_far.front (take n rest) so_far.written more;
+  written = Writes-trans a b c so_far.front (take n rest) _ so_far.written more;
   split = so_far.split ∙ ap (λ (t : List ℕ). so_far.front ++ t) (sym (take-append-drop n rest)) ∙ sym (append_assoc so_far.front (take n rest) (drop n rest));
 }
 
-pub Appends-kept : (a b c : Option (List ℕ)) (front : List ℕ) → Appends a b front → Keeps b c → Appends a c front
-Appends-kept None b c front p q = tt
-Appends-kept (Some x) None c front p q = absurd p
-Appends-kept (Some x) (Some y) None front p q = absurd q
-Appends-kept (Some x) (Some y) (Some z) front p q = q ∙ p
-
 -- nothing more, and something is left
-pub AppendsFront-wrote : (a b c : Option (List ℕ)) (text rest : List ℕ) → Wrote a b text rest → Keeps b c → 0 < length rest → AppendsFront a c text
-AppendsFront-wrote a b c text rest so_far kept more =
-    record { front = so_far.front; back = rest; written = Appends-kept a b c so_far.front so_far.written kept; split = so_far.split; unwritten = more }
+pub AppendsFront-wrote : (a b c : WriterState) (text rest : List ℕ) → Wrote a b text rest → Writes b c [] (false ∷ []) → 0 < length rest → AppendsFront a c text
+AppendsFront-wrote a b c text rest so_far failed more = record {
+  front = so_far.front;
+  back = rest;
+  written = subst (λ (t : List ℕ). Writes a c t (false ∷ [])) (append-nil so_far.front) (Writes-trans a b c so_far.front [] _ so_far.written failed);
+  split = so_far.split;
+  unwritten = more;
+}
 
 -- no rest is left
-pub Appends-wrote : (a b : Option (List ℕ)) (text rest : List ℕ) → Wrote a b text rest → length rest ≡ 0 → Appends a b text
+pub Appends-wrote : (a b : WriterState) (text rest : List ℕ) → Wrote a b text rest → length rest ≡ 0 → Writes a b text []
 Appends-wrote a b text rest so_far none =
     let nil : rest ≡ [] = nil_from_length rest none in
     let whole : so_far.front ≡ text = sym (so_far.split ∙ ap (λ (t : List ℕ). so_far.front ++ t) nil ∙ append-nil so_far.front) in
-    subst (λ (t : List ℕ). Appends a b t) whole so_far.written
+    subst (λ (t : List ℕ). Writes a b t []) whole so_far.written
 
 -- what `&rest[n..]` is
-pub Wrote-slice : (a b c : Option (List ℕ)) (text rest : List ℕ) (n len : ℕ) → Wrote a b text rest → Appends b c (take n rest) → len ≡ length rest - n → Wrote a c text (take len (drop n rest))
+pub Wrote-slice : (a b c : WriterState) (text rest : List ℕ) (n len : ℕ) → Wrote a b text rest → Writes b c (take n rest) [] → len ≡ length rest - n → Wrote a c text (take len (drop n rest))
 Wrote-slice a b c text rest n len so_far more e =
     let whole : take len (drop n rest) ≡ drop n rest = take_all len (drop n rest) (omega (arith, length-drop n rest)) in
     subst (λ (t : List ℕ). Wrote a c text t) (sym whole) (Wrote-more a b c text rest n so_far more)
 
 -- a piece is kept too
-pub Wrote-kept : (a : Option (List ℕ)) (kept piece all : List ℕ) → all ≡ kept ++ piece → Wrote a a (kept ++ piece) all
-Wrote-kept a kept piece all all_is = record { front = []; written = Appends-nil a; split = sym all_is }
+pub Wrote-kept : (a : WriterState) (kept piece all : List ℕ) → all ≡ kept ++ piece → Wrote a a (kept ++ piece) all
+Wrote-kept a kept piece all all_is = record { front = []; written = Writes-none a; split = sym all_is }
 
 -- what was kept is written, and a piece is kept
-pub Wrote-emptied : (a b : Option (List ℕ)) (kept piece none all : List ℕ) → Appends a b kept → none ≡ [] → all ≡ none ++ piece → Wrote a b (kept ++ piece) all
+pub Wrote-emptied : (a b : WriterState) (kept piece none all : List ℕ) → Writes a b kept [] → none ≡ [] → all ≡ none ++ piece → Wrote a b (kept ++ piece) all
 Wrote-emptied a b kept piece none all done none_is all_is = record {
   front = kept;
   written = done;
@@ -60,43 +59,43 @@ Wrote-emptied a b kept piece none all done none_is all_is = record {
 }
 
 -- what was kept is written, and then a piece
-pub Wrote-through : (a b c : Option (List ℕ)) (kept piece none : List ℕ) → Appends a b kept → none ≡ [] → Appends b c piece → Wrote a c (kept ++ piece) none
+pub Wrote-through : (a b c : WriterState) (kept piece none : List ℕ) → Writes a b kept [] → none ≡ [] → Writes b c piece [] → Wrote a c (kept ++ piece) none
 Wrote-through a b c kept piece none done none_is more = record {
   front = kept ++ piece;
-  written = Appends-trans a b c kept piece done more;
+  written = Writes-trans a b c kept piece _ done more;
   split = sym (ap (λ (t : List ℕ). (kept ++ piece) ++ t) none_is ∙ append-nil (kept ++ piece));
 }
 
 -- nothing is left
-pub Wrote-whole : (a b : Option (List ℕ)) (text rest none : List ℕ) → Wrote a b text rest → rest ≡ none → Wrote a b text none
+pub Wrote-whole : (a b : WriterState) (text rest none : List ℕ) → Wrote a b text rest → rest ≡ none → Wrote a b text none
 Wrote-whole a b text rest none so_far e = subst (λ (t : List ℕ). Wrote a b text t) e so_far
 
 -- of the text that was left
-pub Wrote-trans : (a b c : Option (List ℕ)) (text rest kept : List ℕ) → Wrote a b text rest → Wrote b c rest kept → Wrote a c text kept
+pub Wrote-trans : (a b c : WriterState) (text rest kept : List ℕ) → Wrote a b text rest → Wrote b c rest kept → Wrote a c text kept
 Wrote-trans a b c text rest kept so_far now_is = record {
   front = so_far.front ++ now_is.front;
-  written = Appends-trans a b c so_far.front now_is.front so_far.written now_is.written;
+  written = Writes-trans a b c so_far.front now_is.front _ so_far.written now_is.written;
   split = so_far.split ∙ ap (λ (t : List ℕ). so_far.front ++ t) now_is.split ∙ sym (append_assoc so_far.front now_is.front kept);
 }
 
-pub AppendsFront-trans : (a b c : Option (List ℕ)) (text rest : List ℕ) → Wrote a b text rest → AppendsFront b c rest → AppendsFront a c text
+pub AppendsFront-trans : (a b c : WriterState) (text rest : List ℕ) → Wrote a b text rest → AppendsFront b c rest → AppendsFront a c text
 AppendsFront-trans a b c text rest so_far now_is = record {
   front = so_far.front ++ now_is.front;
   back = now_is.back;
-  written = Appends-trans a b c so_far.front now_is.front so_far.written now_is.written;
+  written = Writes-trans a b c so_far.front now_is.front _ so_far.written now_is.written;
   split = so_far.split ∙ ap (λ (t : List ℕ). so_far.front ++ t) now_is.split ∙ sym (append_assoc so_far.front now_is.front now_is.back);
   unwritten = now_is.unwritten;
 }
 
 -- a longer text
-pub Wrote-wider : (a b : Option (List ℕ)) (text kept more : List ℕ) → Wrote a b text kept → Wrote a b (text ++ more) (kept ++ more)
+pub Wrote-wider : (a b : WriterState) (text kept more : List ℕ) → Wrote a b text kept → Wrote a b (text ++ more) (kept ++ more)
 Wrote-wider a b text kept more so_far = record {
   front = so_far.front;
   written = so_far.written;
   split = ap (λ (t : List ℕ). t ++ more) so_far.split ∙ append_assoc so_far.front kept more;
 }
 
-pub AppendsFront_wider : (a b : Option (List ℕ)) (text more : List ℕ) → AppendsFront a b text → AppendsFront a b (text ++ more)
+pub AppendsFront_wider : (a b : WriterState) (text more : List ℕ) → AppendsFront a b text → AppendsFront a b (text ++ more)
 AppendsFront_wider a b text more now_is = record {
   front = now_is.front;
   back = now_is.back ++ more;
@@ -109,29 +108,29 @@ AppendsFront_wider a b text more now_is = record {
 piece_in_front : (kept rest piece more : List ℕ) → rest ≡ piece ++ more → kept ++ rest ≡ (kept ++ piece) ++ more
 piece_in_front kept rest piece more rest_is = ap (λ (t : List ℕ). kept ++ t) rest_is ∙ sym (append_assoc kept piece more)
 
-pub Wrote-piece : (a b c : Option (List ℕ)) (text kept rest piece more now_kept : List ℕ) → Wrote a b text (kept ++ rest) → rest ≡ piece ++ more → Wrote b c (kept ++ piece) now_kept → Wrote a c text (now_kept ++ more)
+pub Wrote-piece : (a b c : WriterState) (text kept rest piece more now_kept : List ℕ) → Wrote a b text (kept ++ rest) → rest ≡ piece ++ more → Wrote b c (kept ++ piece) now_kept → Wrote a c text (now_kept ++ more)
 Wrote-piece a b c text kept rest piece more now_kept so_far rest_is now_is =
     Wrote-trans a b c text (kept ++ rest) (now_kept ++ more) so_far
     (subst (λ (t : List ℕ). Wrote b c t (now_kept ++ more)) (sym (piece_in_front kept rest piece more rest_is)) (Wrote-wider b c (kept ++ piece) now_kept more now_is))
 
 -- a front of that piece
-pub AppendsFront-piece : (a b c : Option (List ℕ)) (text kept rest piece more : List ℕ) → Wrote a b text (kept ++ rest) → rest ≡ piece ++ more → AppendsFront b c (kept ++ piece) → AppendsFront a c text
+pub AppendsFront-piece : (a b c : WriterState) (text kept rest piece more : List ℕ) → Wrote a b text (kept ++ rest) → rest ≡ piece ++ more → AppendsFront b c (kept ++ piece) → AppendsFront a c text
 AppendsFront-piece a b c text kept rest piece more so_far rest_is now_is =
     AppendsFront-trans a b c text (kept ++ rest) so_far
     (subst (λ (t : List ℕ). AppendsFront b c t) (sym (piece_in_front kept rest piece more rest_is)) (AppendsFront_wider b c (kept ++ piece) more now_is))
 
 -- what was kept is written, and a front of a piece
-pub AppendsFront_after : (a b c : Option (List ℕ)) (kept piece : List ℕ) → Appends a b kept → AppendsFront b c piece → AppendsFront a c (kept ++ piece)
+pub AppendsFront_after : (a b c : WriterState) (kept piece : List ℕ) → Writes a b kept [] → AppendsFront b c piece → AppendsFront a c (kept ++ piece)
 AppendsFront_after a b c kept piece done now_is =
     AppendsFront-trans a b c (kept ++ piece) piece (record { front = kept; written = done; split = refl }) now_is
 
 -- all that was kept is written
-pub Appends-kept-all : (a b c : Option (List ℕ)) (text kept : List ℕ) → Wrote a b text kept → Appends b c kept → Appends a c text
+pub Appends-kept-all : (a b c : WriterState) (text kept : List ℕ) → Wrote a b text kept → Writes b c kept [] → Writes a c text []
 Appends-kept-all a b c text kept so_far done =
-    subst (λ (t : List ℕ). Appends a c t) (sym so_far.split) (Appends-trans a b c so_far.front kept so_far.written done)
+    subst (λ (t : List ℕ). Writes a c t []) (sym so_far.split) (Writes-trans a b c so_far.front kept _ so_far.written done)
 
 -- no text is left behind what is kept
-pub Wrote-end : (a b : Option (List ℕ)) (text kept rest : List ℕ) → Wrote a b text (kept ++ rest) → rest ≡ [] → Wrote a b text kept
+pub Wrote-end : (a b : WriterState) (text kept rest : List ℕ) → Wrote a b text (kept ++ rest) → rest ≡ [] → Wrote a b text kept
 Wrote-end a b text kept rest so_far none =
     subst (λ (t : List ℕ). Wrote a b text t) (ap (λ (t : List ℕ). kept ++ t) none ∙ append-nil kept) so_far
 
@@ -184,17 +183,17 @@ OnOk-map (Ok v) f p = f p
 OnOk-map (Err e) f p = tt
 
 -- a piece, and one behind it
-pub Wrote-then : (a b c : Option (List ℕ)) (kept piece next now_kept then_kept : List ℕ) → Wrote a b (kept ++ piece) now_kept → Wrote b c (now_kept ++ next) then_kept → Wrote a c (kept ++ (piece ++ next)) then_kept
+pub Wrote-then : (a b c : WriterState) (kept piece next now_kept then_kept : List ℕ) → Wrote a b (kept ++ piece) now_kept → Wrote b c (now_kept ++ next) then_kept → Wrote a c (kept ++ (piece ++ next)) then_kept
 Wrote-then a b c kept piece next now_kept then_kept first second =
     Wrote-trans a b c (kept ++ (piece ++ next)) (now_kept ++ next) then_kept
     (subst (λ (t : List ℕ). Wrote a b t (now_kept ++ next)) (append_assoc kept piece next) (Wrote-wider a b (kept ++ piece) now_kept next first)) second
 
 -- a front of the piece, or of the one behind it
-pub AppendsFront-first : (a b : Option (List ℕ)) (kept piece next : List ℕ) → AppendsFront a b (kept ++ piece) → AppendsFront a b (kept ++ (piece ++ next))
+pub AppendsFront-first : (a b : WriterState) (kept piece next : List ℕ) → AppendsFront a b (kept ++ piece) → AppendsFront a b (kept ++ (piece ++ next))
 AppendsFront-first a b kept piece next first =
     subst (λ (t : List ℕ). AppendsFront a b t) (append_assoc kept piece next) (AppendsFront_wider a b (kept ++ piece) next first)
 
-pub AppendsFront-then : (a b c : Option (List ℕ)) (kept piece next now_kept : List ℕ) → Wrote a b (kept ++ piece) now_kept → AppendsFront b c (now_kept ++ next) → AppendsFront a c (kept ++ (piece ++ next))
+pub AppendsFront-then : (a b c : WriterState) (kept piece next now_kept : List ℕ) → Wrote a b (kept ++ piece) now_kept → AppendsFront b c (now_kept ++ next) → AppendsFront a c (kept ++ (piece ++ next))
 AppendsFront-then a b c kept piece next now_kept first second =
     AppendsFront-trans a b c (kept ++ (piece ++ next)) (now_kept ++ next)
     (subst (λ (t : List ℕ). Wrote a b t (now_kept ++ next)) (append_assoc kept piece next) (Wrote-wider a b (kept ++ piece) now_kept next first)) second
@@ -211,13 +210,13 @@ typed_text-some [] some = absurd (omega (arith, some))
 typed_text-some (byte ∷ typed) some = refl
 
 -- no line where nothing was typed
-pub Wrote-untyped : (a : Option (List ℕ)) (kept typed : List ℕ) → length typed ≡ 0 → Wrote a a (kept ++ typed_text typed) kept
+pub Wrote-untyped : (a : WriterState) (kept typed : List ℕ) → length typed ≡ 0 → Wrote a a (kept ++ typed_text typed) kept
 Wrote-untyped a kept typed none =
     let nothing : kept ++ typed_text typed ≡ kept = ap (λ (t : List ℕ). kept ++ t) (typed_text-none typed none) ∙ append-nil kept in
     subst (λ (t : List ℕ). Wrote a a t kept) (sym nothing) (Wrote-none a kept)
 
 -- a text, and one behind it
-pub puts_then : (a b c : Option (List ℕ)) (kept text next now_kept then_kept : List ℕ) (r : Result (Unit {0}) Broken)
+pub puts_then : (a b c : WriterState) (kept text next now_kept then_kept : List ℕ) (r : Result (Unit {0}) Broken)
     → Puts a kept text b now_kept (Ok tt) → Puts b now_kept next c then_kept r → Puts a kept (text ++ next) c then_kept r
 puts_then a b c kept text next now_kept then_kept r first second = record {
   done = OnOk-map r (Wrote-then a b c kept text next now_kept then_kept first.done) second.done;
@@ -225,23 +224,23 @@ puts_then a b c kept text next now_kept then_kept r first second = record {
 }
 
 -- a front of the text
-pub puts_broken : (a b : Option (List ℕ)) (kept text now_kept : List ℕ) (r : Result (Unit {0}) Broken)
+pub puts_broken : (a b : WriterState) (kept text now_kept : List ℕ) (r : Result (Unit {0}) Broken)
     → IsErr r → AppendsFront a b (kept ++ text) → Puts a kept text b now_kept r
 puts_broken a b kept text now_kept (Ok v) err front = absurd (search rules)
 puts_broken a b kept text now_kept (Err e) err front = record { done = tt; broken = front }
 
 -- a front of the text, and none of the one behind it
-pub puts_front : (a b : Option (List ℕ)) (kept text next now_kept : List ℕ) (e : Broken)
+pub puts_front : (a b : WriterState) (kept text next now_kept : List ℕ) (e : Broken)
     → Puts a kept text b now_kept (Err e) → Puts a kept (text ++ next) b now_kept (Err e)
 puts_front a b kept text next now_kept e first =
     record { done = tt; broken = AppendsFront-first a b kept text next first.broken }
 
 -- a failure that is handed on
-pub puts_failed : (a b : Option (List ℕ)) (kept text now_kept : List ℕ) (e : Broken) (r : Result (Unit {0}) Broken)
+pub puts_failed : (a b : WriterState) (kept text now_kept : List ℕ) (e : Broken) (r : Result (Unit {0}) Broken)
     → IsErr r → Puts a kept text b now_kept (Err e) → Puts a kept text b now_kept r
 puts_failed a b kept text now_kept e r err first = puts_broken a b kept text now_kept r err first.broken
 
 -- the whole text
-pub puts_done : (a b : Option (List ℕ)) (kept text now_kept : List ℕ) (v : Unit {0})
+pub puts_done : (a b : WriterState) (kept text now_kept : List ℕ) (v : Unit {0})
     → Wrote a b (kept ++ text) now_kept → Puts a kept text b now_kept (Ok v)
 puts_done a b kept text now_kept v wrote = record { done = wrote; broken = tt }

@@ -4,4 +4,5 @@ pub mod Escapes
 pub mod Grammar
 pub mod LineText
 pub mod Reading
+pub mod Writers
 pub mod Written

@@ -7,9 +7,9 @@ ghost use Rattle.p11_lines.specs.Written.{Puts};
 use crate::answer::{ClockShown, Devices, LineRegisters, ManagementRegisters, Requests};
 use crate::output::{Broken, Table, octal, put_all};
 use crate::packs::{put_disk, put_drives};
+use crate::sink::Sink;
 use arrayvec::ArrayVec;
 use itoa::Buffer;
-use std::io::Write;
 
 /// A due turn, or a dash.
 pub(crate) fn due_name(due: Option<u64>) -> ArrayVec<u8, 20>
@@ -26,9 +26,9 @@ pub(crate) fn due_name(due: Option<u64>) -> ArrayVec<u8, 20>
 }
 
 #[tactic(auto, unfolding(crate::specs::AnswerText::clock_text))]
-fn put_clock<W: Write>(writer: &mut W, table: &mut Table, clock: &ClockShown) -> Result<(), Broken>
-    ensures { Puts (W.contents writer.old) table.old.items (clock_text clock.now.status clock.now.period clock.now.due)
-        (W.contents writer.new) table.new.items result }
+fn put_clock<W: Sink>(writer: &mut W, table: &mut Table, clock: &ClockShown) -> Result<(), Broken>
+    ensures { Puts (W.state writer.old) table.old.items (clock_text clock.now.status clock.now.period clock.now.due)
+        (W.state writer.new) table.new.items result }
 {
     let status = octal(u32::from(clock.status));
     let mut buffer = Buffer::new();
@@ -50,13 +50,13 @@ fn put_clock<W: Write>(writer: &mut W, table: &mut Table, clock: &ClockShown) ->
 }
 
 #[tactic(auto, unfolding(crate::specs::AnswerText::line_words_text))]
-fn put_line_words<W: Write>(
+fn put_line_words<W: Sink>(
     writer: &mut W,
     table: &mut Table,
     line: &LineRegisters,
 ) -> Result<(), Broken>
-    ensures { Puts (W.contents writer.old) table.old.items (line_words_text line.now)
-        (W.contents writer.new) table.new.items result }
+    ensures { Puts (W.state writer.old) table.old.items (line_words_text line.now)
+        (W.state writer.new) table.new.items result }
 {
     let receiver = octal(u32::from(line.receiver_status));
     let character = octal(u32::from(line.receiver_buffer));
@@ -69,13 +69,13 @@ fn put_line_words<W: Write>(
 }
 
 #[tactic(auto, unfolding(crate::specs::AnswerText::line_waits_text))]
-fn put_line_waits<W: Write>(
+fn put_line_waits<W: Sink>(
     writer: &mut W,
     table: &mut Table,
     line: &LineRegisters,
 ) -> Result<(), Broken>
-    ensures { Puts (W.contents writer.old) table.old.items (line_waits_text line.now)
-        (W.contents writer.new) table.new.items result }
+    ensures { Puts (W.state writer.old) table.old.items (line_waits_text line.now)
+        (W.state writer.new) table.new.items result }
 {
     let mut buffer = Buffer::new();
     let keys = buffer.format(line.keys).as_bytes();
@@ -96,22 +96,22 @@ fn put_line_waits<W: Write>(
     )
 }
 
-fn put_line<W: Write>(writer: &mut W, table: &mut Table, line: &LineRegisters) -> Result<(), Broken>
-    ensures { Puts (W.contents writer.old) table.old.items (line_words_text line.now ++ line_waits_text line.now)
-        (W.contents writer.new) table.new.items result }
+fn put_line<W: Sink>(writer: &mut W, table: &mut Table, line: &LineRegisters) -> Result<(), Broken>
+    ensures { Puts (W.state writer.old) table.old.items (line_words_text line.now ++ line_waits_text line.now)
+        (W.state writer.new) table.new.items result }
 {
     put_line_words(writer, table, line)?;
     put_line_waits(writer, table, line)
 }
 
 #[tactic(auto, unfolding(crate::specs::AnswerText::management_text))]
-fn put_management<W: Write>(
+fn put_management<W: Sink>(
     writer: &mut W,
     table: &mut Table,
     management: &ManagementRegisters,
 ) -> Result<(), Broken>
-    ensures { Puts (W.contents writer.old) table.old.items (management_text management.now)
-        (W.contents writer.new) table.new.items result }
+    ensures { Puts (W.state writer.old) table.old.items (management_text management.now)
+        (W.state writer.new) table.new.items result }
 {
     let status_0 = octal(u32::from(management.status_0));
     let status_2 = octal(u32::from(management.status_2));
@@ -126,13 +126,13 @@ fn request_name(request: bool) -> &'static str
 }
 
 #[tactic(auto, unfolding(crate::specs::AnswerText::requests_text))]
-fn put_requests<W: Write>(
+fn put_requests<W: Sink>(
     writer: &mut W,
     table: &mut Table,
     requests: &Requests,
 ) -> Result<(), Broken>
-    ensures { Puts (W.contents writer.old) table.old.items (requests_text requests.now)
-        (W.contents writer.new) table.new.items result }
+    ensures { Puts (W.state writer.old) table.old.items (requests_text requests.now)
+        (W.state writer.new) table.new.items result }
 {
     put_all(
         writer,
@@ -151,13 +151,13 @@ fn put_requests<W: Write>(
     )
 }
 
-pub(crate) fn put_devices<W: Write>(
+pub(crate) fn put_devices<W: Sink>(
     writer: &mut W,
     table: &mut Table,
     devices: &Devices,
 ) -> Result<(), Broken>
-    ensures { Puts (W.contents writer.old) table.old.items (devices_text devices.now)
-        (W.contents writer.new) table.new.items result }
+    ensures { Puts (W.state writer.old) table.old.items (devices_text devices.now)
+        (W.state writer.new) table.new.items result }
 {
     put_clock(writer, table, &devices.clock)?;
     put_line(writer, table, &devices.line)?;

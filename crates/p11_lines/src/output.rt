@@ -1,11 +1,11 @@
 // The texts of answers, written in pieces from fixed tables.
 ghost use Rattle.std.specs.Prelude.{◌≡◌, ◌+◌, ◌++◌, ◌≤◌, [], OnOk, OnErr, decimal};
 ghost use Rattle.std.specs.List.{flat_map};
-ghost use Rattle.std.specs.Io.KnownBytes.{Appends};
 ghost use Rattle.p11_lines.specs.AnswerText.{text_of, six_octals, exam_text, exam_texts};
 ghost use Rattle.p11_lines.specs.AnswerText.{mark_text, spaced_text, general_text, pointers_text, turn_text};
 ghost use Rattle.p11_lines.specs.AnswerText.{registers_text, fault_text};
 ghost use Rattle.p11_lines.specs.Written.{Puts, AppendsFront};
+ghost use Rattle.p11_lines.specs.Writers.{Writes};
 
 use crate::answer::{Answer, Mark, Registers};
 use crate::devices::put_devices;
@@ -13,11 +13,11 @@ use crate::escape::digit;
 use crate::fault::Fault;
 use crate::packs::put_sectors;
 use crate::run::put_run;
+use crate::sink::Sink;
 use crate::tapes::put_tape;
 use arrayvec::ArrayVec;
 use itoa::Buffer;
 use std::alloc::Allocator;
-use std::io::Write;
 use thiserror::Error;
 
 /// A writer failed, or took nothing.
@@ -29,9 +29,9 @@ pub struct Broken;
 pub(crate) type Table = ArrayVec<u8, 4096>;
 
 /// Writes a piece.
-fn write_out<W: Write>(writer: &mut W, piece: &[u8]) -> Result<(), Broken>
-    ensures ok { OnOk result (Appends (W.contents writer.old) (W.contents writer.new) piece.now) }
-    ensures err { OnErr result (AppendsFront (W.contents writer.old) (W.contents writer.new) piece.now) }
+fn write_out<W: Sink>(writer: &mut W, piece: &[u8]) -> Result<(), Broken>
+    ensures ok { OnOk result (Writes (W.state writer.old) (W.state writer.new) piece.now []) }
+    ensures err { OnErr result (AppendsFront (W.state writer.old) (W.state writer.new) piece.now) }
 {
     let mut rest = piece;
     while !rest.is_empty() {
@@ -45,10 +45,10 @@ fn write_out<W: Write>(writer: &mut W, piece: &[u8]) -> Result<(), Broken>
 }
 
 /// Writes what is kept.
-fn empty<W: Write>(writer: &mut W, table: &mut Table) -> Result<(), Broken>
-    ensures ok { OnOk result (Appends (W.contents writer.old) (W.contents writer.new) table.old.items) }
+fn empty<W: Sink>(writer: &mut W, table: &mut Table) -> Result<(), Broken>
+    ensures ok { OnOk result (Writes (W.state writer.old) (W.state writer.new) table.old.items []) }
     ensures none { OnOk result (table.new.items ≡ []) }
-    ensures err { OnErr result (AppendsFront (W.contents writer.old) (W.contents writer.new) table.old.items) }
+    ensures err { OnErr result (AppendsFront (W.state writer.old) (W.state writer.new) table.old.items) }
 {
     write_out(writer, table.as_slice())?;
     table.clear();
@@ -56,9 +56,9 @@ fn empty<W: Write>(writer: &mut W, table: &mut Table) -> Result<(), Broken>
 }
 
 /// Keeps a piece, and writes what was kept where there is no room for it.
-pub(crate) fn put<W: Write>(writer: &mut W, table: &mut Table, piece: &[u8]) -> Result<(), Broken>
-    ensures { Puts (W.contents writer.old) table.old.items piece.now
-        (W.contents writer.new) table.new.items result }
+pub(crate) fn put<W: Sink>(writer: &mut W, table: &mut Table, piece: &[u8]) -> Result<(), Broken>
+    ensures { Puts (W.state writer.old) table.old.items piece.now
+        (W.state writer.new) table.new.items result }
 {
     if table.try_extend_from_slice(piece).is_ok() {
         return Ok(());
@@ -71,13 +71,13 @@ pub(crate) fn put<W: Write>(writer: &mut W, table: &mut Table, piece: &[u8]) -> 
 }
 
 /// Puts pieces, one after the other.
-pub(crate) fn put_all<W: Write>(
+pub(crate) fn put_all<W: Sink>(
     writer: &mut W,
     table: &mut Table,
     pieces: &[&[u8]],
 ) -> Result<(), Broken>
-    ensures { Puts (W.contents writer.old) table.old.items (flat_map (λ piece. piece.now) pieces.now)
-        (W.contents writer.new) table.new.items result }
+    ensures { Puts (W.state writer.old) table.old.items (flat_map (λ piece. piece.now) pieces.now)
+        (W.state writer.new) table.new.items result }
 {
     for piece in pieces {
         put(writer, table, piece)?;
@@ -101,14 +101,14 @@ pub(crate) fn octal(number: u32) -> [u8; 6]
 }
 
 /// Puts the line of one word.
-fn put_word<W: Write>(
+fn put_word<W: Sink>(
     writer: &mut W,
     table: &mut Table,
     address: u32,
     word: u16,
 ) -> Result<(), Broken>
-    ensures { Puts (W.contents writer.old) table.old.items (exam_text address word)
-        (W.contents writer.new) table.new.items result }
+    ensures { Puts (W.state writer.old) table.old.items (exam_text address word)
+        (W.state writer.new) table.new.items result }
 {
     put_all(
         writer,
@@ -124,14 +124,14 @@ fn put_word<W: Write>(
 }
 
 /// Puts a line for each word.
-fn put_words<W: Write>(
+fn put_words<W: Sink>(
     writer: &mut W,
     table: &mut Table,
     address: u32,
     words: &[u16],
 ) -> Result<(), Broken>
-    ensures { Puts (W.contents writer.old) table.old.items (exam_texts address words.now)
-        (W.contents writer.new) table.new.items result }
+    ensures { Puts (W.state writer.old) table.old.items (exam_texts address words.now)
+        (W.state writer.new) table.new.items result }
 {
     let mut at = address;
     for word in words {
@@ -153,13 +153,13 @@ fn mark_name(mark: Mark) -> &'static str
 }
 
 /// Puts a space and six octal digits for each word.
-pub(crate) fn put_spaced<W: Write>(
+pub(crate) fn put_spaced<W: Sink>(
     writer: &mut W,
     table: &mut Table,
     words: &[u16],
 ) -> Result<(), Broken>
-    ensures { Puts (W.contents writer.old) table.old.items (spaced_text words.now)
-        (W.contents writer.new) table.new.items result }
+    ensures { Puts (W.state writer.old) table.old.items (spaced_text words.now)
+        (W.state writer.new) table.new.items result }
 {
     for word in words {
         put_all(writer, table, &[b" ", &octal(u32::from(*word))])?;
@@ -167,26 +167,26 @@ pub(crate) fn put_spaced<W: Write>(
     Ok(())
 }
 
-fn put_general<W: Write>(
+fn put_general<W: Sink>(
     writer: &mut W,
     table: &mut Table,
     registers: &Registers,
 ) -> Result<(), Broken>
-    ensures { Puts (W.contents writer.old) table.old.items (general_text registers.now)
-        (W.contents writer.new) table.new.items result }
+    ensures { Puts (W.state writer.old) table.old.items (general_text registers.now)
+        (W.state writer.new) table.new.items result }
 {
     put(writer, table, b"REGS")?;
     put_spaced(writer, table, &registers.general)?;
     put(writer, table, b"\n")
 }
 
-fn put_pointers<W: Write>(
+fn put_pointers<W: Sink>(
     writer: &mut W,
     table: &mut Table,
     registers: &Registers,
 ) -> Result<(), Broken>
-    ensures { Puts (W.contents writer.old) table.old.items (pointers_text registers.now)
-        (W.contents writer.new) table.new.items result }
+    ensures { Puts (W.state writer.old) table.old.items (pointers_text registers.now)
+        (W.state writer.new) table.new.items result }
 {
     let kernel = octal(u32::from(registers.kernel_sp));
     let user = octal(u32::from(registers.user_sp));
@@ -201,13 +201,13 @@ fn put_pointers<W: Write>(
     )
 }
 
-fn put_turns<W: Write>(
+fn put_turns<W: Sink>(
     writer: &mut W,
     table: &mut Table,
     registers: &Registers,
 ) -> Result<(), Broken>
-    ensures { Puts (W.contents writer.old) table.old.items (turn_text registers.now)
-        (W.contents writer.new) table.new.items result }
+    ensures { Puts (W.state writer.old) table.old.items (turn_text registers.now)
+        (W.state writer.new) table.new.items result }
 {
     let mut buffer = Buffer::new();
     let turns = buffer.format(registers.turns).as_bytes();
@@ -224,22 +224,22 @@ fn put_turns<W: Write>(
     )
 }
 
-fn put_registers<W: Write>(
+fn put_registers<W: Sink>(
     writer: &mut W,
     table: &mut Table,
     registers: &Registers,
 ) -> Result<(), Broken>
-    ensures { Puts (W.contents writer.old) table.old.items (registers_text registers.now)
-        (W.contents writer.new) table.new.items result }
+    ensures { Puts (W.state writer.old) table.old.items (registers_text registers.now)
+        (W.state writer.new) table.new.items result }
 {
     put_general(writer, table, registers)?;
     put_pointers(writer, table, registers)?;
     put_turns(writer, table, registers)
 }
 
-fn put_fault<W: Write>(writer: &mut W, table: &mut Table, fault: Fault) -> Result<(), Broken>
-    ensures { Puts (W.contents writer.old) table.old.items (fault_text fault)
-        (W.contents writer.new) table.new.items result }
+fn put_fault<W: Sink>(writer: &mut W, table: &mut Table, fault: Fault) -> Result<(), Broken>
+    ensures { Puts (W.state writer.old) table.old.items (fault_text fault)
+        (W.state writer.new) table.new.items result }
 {
     let mut buffer = Buffer::new();
     let number = buffer.format(fault.number()).as_bytes();
@@ -252,13 +252,13 @@ fn put_fault<W: Write>(writer: &mut W, table: &mut Table, fault: Fault) -> Resul
 
 /// Puts the text of an answer.
 #[tactic(auto, unfolding(crate::specs::AnswerText::text_of))]
-fn put_text<W: Write, A: Allocator>(
+fn put_text<W: Sink, A: Allocator>(
     writer: &mut W,
     table: &mut Table,
     answer: &Answer<A>,
 ) -> Result<(), Broken>
-    ensures { Puts (W.contents writer.old) table.old.items (text_of answer.now)
-        (W.contents writer.new) table.new.items result }
+    ensures { Puts (W.state writer.old) table.old.items (text_of answer.now)
+        (W.state writer.new) table.new.items result }
 {
     match answer {
         Answer::Done | Answer::Image(_) => put(writer, table, b"OK\n"),
@@ -282,10 +282,11 @@ fn put_text<W: Write, A: Allocator>(
 /// whole.
 ///
 /// Where the bytes of the writer are known, they gain exactly the text, and after `Broken` a front
-/// of it that isn't all of it: the writer failed, or took no bytes.
-pub fn put_answer<W: Write, A: Allocator>(writer: &mut W, answer: &Answer<A>) -> Result<(), Broken>
-    ensures ok { OnOk result (Appends (W.contents writer.old) (W.contents writer.new) (text_of answer.now)) }
-    ensures err { OnErr result (AppendsFront (W.contents writer.old) (W.contents writer.new) (text_of answer.now)) }
+/// of it that isn't all of it. Done, each write took some; after `Broken` each but the last, which failed or took
+/// nothing.
+pub fn put_answer<W: Sink, A: Allocator>(writer: &mut W, answer: &Answer<A>) -> Result<(), Broken>
+    ensures ok { OnOk result (Writes (W.state writer.old) (W.state writer.new) (text_of answer.now) []) }
+    ensures err { OnErr result (AppendsFront (W.state writer.old) (W.state writer.new) (text_of answer.now)) }
 {
     let mut table = Table::new();
     put_text(writer, &mut table, answer)?;

@@ -7,39 +7,39 @@ ghost use Rattle.p11_lines.specs.Written.{Puts};
 use crate::answer::{DiskRegisters, DriveShown};
 use crate::devices::due_name;
 use crate::output::{Broken, Table, put, put_all, put_spaced};
+use crate::sink::Sink;
 use crate::text::access_name;
 use itoa::Buffer;
-use std::io::Write;
 
 /// Puts a number behind its name.
-fn put_numbered<W: Write>(
+fn put_numbered<W: Sink>(
     writer: &mut W,
     table: &mut Table,
     name: &[u8],
     number: usize,
 ) -> Result<(), Broken>
-    ensures { Puts (W.contents writer.old) table.old.items (name.now ++ decimal number)
-        (W.contents writer.new) table.new.items result }
+    ensures { Puts (W.state writer.old) table.old.items (name.now ++ decimal number)
+        (W.state writer.new) table.new.items result }
 {
     let mut buffer = Buffer::new();
     put_all(writer, table, &[name, buffer.format(number).as_bytes()])
 }
 
 #[tactic(auto, unfolding(crate::specs::AnswerText::disk_due_text))]
-fn put_disk_due<W: Write>(writer: &mut W, table: &mut Table, due: Option<u64>) -> Result<(), Broken>
-    ensures { Puts (W.contents writer.old) table.old.items (disk_due_text due)
-        (W.contents writer.new) table.new.items result }
+fn put_disk_due<W: Sink>(writer: &mut W, table: &mut Table, due: Option<u64>) -> Result<(), Broken>
+    ensures { Puts (W.state writer.old) table.old.items (disk_due_text due)
+        (W.state writer.new) table.new.items result }
 {
     put_all(writer, table, &[b" due ", due_name(due).as_slice(), b"\n"])
 }
 
-pub(crate) fn put_disk<W: Write>(
+pub(crate) fn put_disk<W: Sink>(
     writer: &mut W,
     table: &mut Table,
     disk: &DiskRegisters,
 ) -> Result<(), Broken>
-    ensures { Puts (W.contents writer.old) table.old.items (disk_text disk.now)
-        (W.contents writer.new) table.new.items result }
+    ensures { Puts (W.state writer.old) table.old.items (disk_text disk.now)
+        (W.state writer.new) table.new.items result }
 {
     let registers = [
         disk.status,
@@ -56,9 +56,9 @@ pub(crate) fn put_disk<W: Write>(
 
 /// Puts what a drive with a pack shows.
 #[tactic(auto, unfolding(crate::specs::AnswerText::pack_text))]
-fn put_pack<W: Write>(writer: &mut W, table: &mut Table, drive: &DriveShown) -> Result<(), Broken>
-    ensures { Puts (W.contents writer.old) table.old.items (pack_text drive.now)
-        (W.contents writer.new) table.new.items result }
+fn put_pack<W: Sink>(writer: &mut W, table: &mut Table, drive: &DriveShown) -> Result<(), Broken>
+    ensures { Puts (W.state writer.old) table.old.items (pack_text drive.now)
+        (W.state writer.new) table.new.items result }
 {
     let mut cylinder = Buffer::new();
     let cylinder = cylinder.format(drive.cylinder).as_bytes();
@@ -83,28 +83,28 @@ fn put_pack<W: Write>(writer: &mut W, table: &mut Table, drive: &DriveShown) -> 
 }
 
 /// Puts the line of a drive with a pack.
-fn put_mounted<W: Write>(
+fn put_mounted<W: Sink>(
     writer: &mut W,
     table: &mut Table,
     number: usize,
     drive: &DriveShown,
 ) -> Result<(), Broken>
-    ensures { Puts (W.contents writer.old) table.old.items (codes "DRIVE " ++ decimal number ++ pack_text drive.now)
-        (W.contents writer.new) table.new.items result }
+    ensures { Puts (W.state writer.old) table.old.items (codes "DRIVE " ++ decimal number ++ pack_text drive.now)
+        (W.state writer.new) table.new.items result }
 {
     put_numbered(writer, table, b"DRIVE ", number)?;
     put_pack(writer, table, drive)
 }
 
 #[tactic(auto, unfolding(crate::specs::AnswerText::drive_text))]
-fn put_drive<W: Write>(
+fn put_drive<W: Sink>(
     writer: &mut W,
     table: &mut Table,
     number: usize,
     drive: &Option<DriveShown>,
 ) -> Result<(), Broken>
-    ensures { Puts (W.contents writer.old) table.old.items (drive_text number drive.now)
-        (W.contents writer.new) table.new.items result }
+    ensures { Puts (W.state writer.old) table.old.items (drive_text number drive.now)
+        (W.state writer.new) table.new.items result }
 {
     match drive {
         Some(shown) => put_mounted(writer, table, number, shown),
@@ -117,13 +117,13 @@ fn put_drive<W: Write>(
 }
 
 /// Puts a line for each drive.
-pub(crate) fn put_drives<W: Write>(
+pub(crate) fn put_drives<W: Sink>(
     writer: &mut W,
     table: &mut Table,
     drives: &[Option<DriveShown>],
 ) -> Result<(), Broken>
-    ensures { Puts (W.contents writer.old) table.old.items (drives_text 0 drives.now)
-        (W.contents writer.new) table.new.items result }
+    ensures { Puts (W.state writer.old) table.old.items (drives_text 0 drives.now)
+        (W.state writer.new) table.new.items result }
 {
     for number in 0..drives.len() {
         put_drive(writer, table, number, &drives[number])?;
@@ -132,16 +132,16 @@ pub(crate) fn put_drives<W: Write>(
 }
 
 /// Puts a space and a number.
-fn put_number<W: Write>(writer: &mut W, table: &mut Table, number: u16) -> Result<(), Broken>
-    ensures { Puts (W.contents writer.old) table.old.items (codes " " ++ decimal number)
-        (W.contents writer.new) table.new.items result }
+fn put_number<W: Sink>(writer: &mut W, table: &mut Table, number: u16) -> Result<(), Broken>
+    ensures { Puts (W.state writer.old) table.old.items (codes " " ++ decimal number)
+        (W.state writer.new) table.new.items result }
 {
     put_numbered(writer, table, b" ", usize::from(number))
 }
 
-fn put_numbers<W: Write>(writer: &mut W, table: &mut Table, numbers: &[u16]) -> Result<(), Broken>
-    ensures { Puts (W.contents writer.old) table.old.items (numbers_text numbers.now)
-        (W.contents writer.new) table.new.items result }
+fn put_numbers<W: Sink>(writer: &mut W, table: &mut Table, numbers: &[u16]) -> Result<(), Broken>
+    ensures { Puts (W.state writer.old) table.old.items (numbers_text numbers.now)
+        (W.state writer.new) table.new.items result }
 {
     for number in numbers {
         put_number(writer, table, *number)?;
@@ -150,13 +150,13 @@ fn put_numbers<W: Write>(writer: &mut W, table: &mut Table, numbers: &[u16]) -> 
 }
 
 /// Puts the line of the sectors that were written.
-pub(crate) fn put_sectors<W: Write>(
+pub(crate) fn put_sectors<W: Sink>(
     writer: &mut W,
     table: &mut Table,
     sectors: &[u16],
 ) -> Result<(), Broken>
-    ensures { Puts (W.contents writer.old) table.old.items (sectors_text sectors.now)
-        (W.contents writer.new) table.new.items result }
+    ensures { Puts (W.state writer.old) table.old.items (sectors_text sectors.now)
+        (W.state writer.new) table.new.items result }
 {
     put_numbered(writer, table, b"CHANGED ", sectors.len())?;
     put_numbers(writer, table, sectors)?;

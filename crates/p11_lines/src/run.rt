@@ -7,8 +7,8 @@ ghost use Rattle.p11_lines.specs.Written.{Puts};
 use crate::answer::StopReason;
 use crate::escape::{escape, is_plain};
 use crate::output::{Broken, Table, octal, put, put_all};
+use crate::sink::Sink;
 use itoa::Buffer;
-use std::io::Write;
 
 /// The word for why a run stopped.
 fn reason_name(reason: StopReason) -> &'static str
@@ -22,15 +22,15 @@ fn reason_name(reason: StopReason) -> &'static str
     }
 }
 
-fn put_stop<W: Write>(
+fn put_stop<W: Sink>(
     writer: &mut W,
     table: &mut Table,
     reason: StopReason,
     turns: u32,
     pc: u16,
 ) -> Result<(), Broken>
-    ensures { Puts (W.contents writer.old) table.old.items (stop_text reason turns pc)
-        (W.contents writer.new) table.new.items result }
+    ensures { Puts (W.state writer.old) table.old.items (stop_text reason turns pc)
+        (W.state writer.new) table.new.items result }
 {
     let mut buffer = Buffer::new();
     let turns = buffer.format(turns).as_bytes();
@@ -52,9 +52,9 @@ fn put_stop<W: Write>(
 
 /// Puts what shows a byte.
 #[tactic(auto, unfolding(crate::specs::Escapes::escaped_byte))]
-fn put_byte<W: Write>(writer: &mut W, table: &mut Table, byte: u8) -> Result<(), Broken>
-    ensures { Puts (W.contents writer.old) table.old.items (escaped_byte byte)
-        (W.contents writer.new) table.new.items result }
+fn put_byte<W: Sink>(writer: &mut W, table: &mut Table, byte: u8) -> Result<(), Broken>
+    ensures { Puts (W.state writer.old) table.old.items (escaped_byte byte)
+        (W.state writer.new) table.new.items result }
 {
     if is_plain(byte) {
         put(writer, table, &[byte])
@@ -64,9 +64,9 @@ fn put_byte<W: Write>(writer: &mut W, table: &mut Table, byte: u8) -> Result<(),
 }
 
 /// Puts what shows bytes.
-fn put_escaped<W: Write>(writer: &mut W, table: &mut Table, bytes: &[u8]) -> Result<(), Broken>
-    ensures { Puts (W.contents writer.old) table.old.items (escaped bytes.now)
-        (W.contents writer.new) table.new.items result }
+fn put_escaped<W: Sink>(writer: &mut W, table: &mut Table, bytes: &[u8]) -> Result<(), Broken>
+    ensures { Puts (W.state writer.old) table.old.items (escaped bytes.now)
+        (W.state writer.new) table.new.items result }
 {
     for byte in bytes {
         put_byte(writer, table, *byte)?;
@@ -75,18 +75,18 @@ fn put_escaped<W: Write>(writer: &mut W, table: &mut Table, bytes: &[u8]) -> Res
 }
 
 /// Puts what shows bytes, and the end of their line.
-fn put_escaped_line<W: Write>(writer: &mut W, table: &mut Table, bytes: &[u8]) -> Result<(), Broken>
-    ensures { Puts (W.contents writer.old) table.old.items (escaped bytes.now ++ codes "\n")
-        (W.contents writer.new) table.new.items result }
+fn put_escaped_line<W: Sink>(writer: &mut W, table: &mut Table, bytes: &[u8]) -> Result<(), Broken>
+    ensures { Puts (W.state writer.old) table.old.items (escaped bytes.now ++ codes "\n")
+        (W.state writer.new) table.new.items result }
 {
     put_escaped(writer, table, bytes)?;
     put(writer, table, b"\n")
 }
 
 /// Puts the line of the typed bytes, if there are any.
-fn put_typed<W: Write>(writer: &mut W, table: &mut Table, typed: &[u8]) -> Result<(), Broken>
-    ensures { Puts (W.contents writer.old) table.old.items (typed_text typed.now)
-        (W.contents writer.new) table.new.items result }
+fn put_typed<W: Sink>(writer: &mut W, table: &mut Table, typed: &[u8]) -> Result<(), Broken>
+    ensures { Puts (W.state writer.old) table.old.items (typed_text typed.now)
+        (W.state writer.new) table.new.items result }
 {
     if typed.is_empty() {
         return Ok(());
@@ -96,7 +96,7 @@ fn put_typed<W: Write>(writer: &mut W, table: &mut Table, typed: &[u8]) -> Resul
 }
 
 /// Puts the lines of a run.
-pub(crate) fn put_run<W: Write>(
+pub(crate) fn put_run<W: Sink>(
     writer: &mut W,
     table: &mut Table,
     typed: &[u8],
@@ -104,8 +104,8 @@ pub(crate) fn put_run<W: Write>(
     turns: u32,
     pc: u16,
 ) -> Result<(), Broken>
-    ensures { Puts (W.contents writer.old) table.old.items (typed_text typed.now ++ stop_text reason turns pc)
-        (W.contents writer.new) table.new.items result }
+    ensures { Puts (W.state writer.old) table.old.items (typed_text typed.now ++ stop_text reason turns pc)
+        (W.state writer.new) table.new.items result }
 {
     put_typed(writer, table, typed)?;
     put_stop(writer, table, reason, turns, pc)

@@ -11,9 +11,9 @@ use crate::fault::{Fault, NoMemory};
 use crate::line::Line;
 use crate::output::{Broken, Table, octal, put_all};
 use crate::parse::next_word;
+use crate::sink::Sink;
 use itoa::Buffer;
 use std::alloc::Allocator;
-use std::io::Write;
 
 #[tactic(auto, unfolding(crate::specs::Grammar::load_from, crate::specs::Grammar::name_from))]
 pub(crate) fn load<A: Allocator>(alloc: A, args: &[u8]) -> Result<Line<A>, Fault>
@@ -42,14 +42,14 @@ pub(crate) fn load_text<A: Allocator>(alloc: A, name: &[u8]) -> Result<Vec<u8, A
 
 /// Puts the line of a tape that was read in.
 #[tactic(auto, unfolding(crate::specs::AnswerText::tape_text))]
-pub(crate) fn put_tape<W: Write>(
+pub(crate) fn put_tape<W: Sink>(
     writer: &mut W,
     table: &mut Table,
     bytes: u64,
     start: Option<u16>,
 ) -> Result<(), Broken>
-    ensures { Puts (W.contents writer.old) table.old.items (tape_text bytes start)
-        (W.contents writer.new) table.new.items result }
+    ensures { Puts (W.state writer.old) table.old.items (tape_text bytes start)
+        (W.state writer.new) table.new.items result }
 {
     let mut buffer = Buffer::new();
     let bytes = buffer.format(bytes).as_bytes();

@@ -1,18 +1,21 @@
 -- One more byte, and one more line, of a session.
-use Rattle.std.proofs.Common.{◌≡◌, ◌≤◌, ◌<◌, ◌+◌, ◌*◌, arith, ℕ, true, false, nat_eq, List, [], ◌∷◌, ◌++◌, length, take, drop, get_or, Option, Some, refl, sym, ap, subst, ◌∙◌, append_assoc, append-nil, add-zero, take-append-drop}
+use Rattle.std.proofs.Common.{◌≡◌, ◌≤◌, ◌<◌, ◌+◌, arith, ℕ, true, false, nat_eq, List, [], ◌∷◌, ◌++◌, length, take, drop, get_or, Option, Some, refl, sym, ap, subst, ◌∙◌, append_assoc, append-nil, add-zero, take-append-drop}
 use Rattle.std.proofs.lemmas.Bool.{lt-ltb, lt-leb, eq-eqb, ne_eqb}
 use Rattle.std.proofs.lemmas.List.{length-append, length-take, take_more, take_all}
 use Rattle.std.proofs.lemmas.List.Concat.{flat_map-append}
 use Rattle.std.specs.Option.{option_to_list}
-use Rattle.std.specs.Io.KnownBytes.{Appends, Consumes}
-use Rattle.std.proofs.KnownBytes.{Appends-nil, Appends-trans, Consumes-nil, Consumes-trans}
+use Rattle.std.specs.Io.KnownBytes.{Consumes, Keeps}
+use Rattle.std.proofs.KnownBytes.{Consumes-nil, Consumes-trans, Consumes-kept}
 use Rattle.p11_lines.specs.declared.answer.Answer.{Answer}
 use Rattle.p11_lines.specs.declared.answer.Answer.TheVariants as answers
 use Rattle.p11_lines.specs.declared.fault.Fault.TheVariants.{BadLine}
 use Rattle.p11_lines.specs.AnswerText.{text_of}
 use Rattle.p11_lines.specs.Grammar.{line_from}
+use Rattle.p11_lines.specs.Writers.{WriterState, Writes, with_calls}
 use Rattle.p11_lines.specs.Written.{AppendsFront}
+use Rattle.p11_lines.proofs.Calls.{Writes-none, Writes-trans, calls_none, calls_trans, calls_last}
 use Rattle.p11_panel.specs.Buffer.{kept, pushed}
+use Rattle.p11_panel.specs.Readers.{ReaderState, Reads}
 use Rattle.p11_panel.specs.Script.{pieces_of, without_cr, ended_lines, script_lines}
 use Rattle.p11_panel.specs.Session.{SessionState, has_answer, LineDoes, Runs, Did, Broke, texts_of}
 use Rattle.p11_panel.specs.Standing.{Stands}
@@ -42,17 +45,17 @@ module _ {S A : Type 0} (Does : List ℕ → S → Option (Answer A) → S → T
 
 module _ {S A : Type 0} {Does : List ℕ → S → Option (Answer A) → S → Type 0} where
   -- one line more is done
-  did_push : (lines : List (List ℕ)) (s : S) (a : Option (List ℕ)) (s' : S) (b : Option (List ℕ)) (n : ℕ) (line : List ℕ) (answer : Option (Answer A)) (s'' : S) (c : Option (List ℕ)) (k : ℕ)
-      → Did Does lines s a s' b n → Does line s' answer s'' → Appends b c (texts_of (option_to_list answer)) → k ≡ length (option_to_list answer) → Did Does (lines ++ line ∷ []) s a s'' c (n + k)
+  did_push : (lines : List (List ℕ)) (s : S) (a : WriterState) (s' : S) (b : WriterState) (n : ℕ) (line : List ℕ) (answer : Option (Answer A)) (s'' : S) (c : WriterState) (k : ℕ)
+      → Did Does lines s a s' b n → Does line s' answer s'' → Writes b c (texts_of (option_to_list answer)) [] → k ≡ length (option_to_list answer) → Did Does (lines ++ line ∷ []) s a s'' c (n + k)
   did_push lines s a s' b n line answer s'' c k h d w e = record {
     answers = h.answers ++ option_to_list answer;
     runs = runs_push Does lines s h.answers s' line answer s'' h.runs d;
-    written = rw flat_map-append (Appends-trans a b c (texts_of h.answers) (texts_of (option_to_list answer)) h.written w);
+    written = rw flat_map-append (Writes-trans a b c (texts_of h.answers) (texts_of (option_to_list answer)) [] h.written w);
     counted = omega (arith, h.counted, length-append h.answers (option_to_list answer));
   }
 
   -- one line more is done, and not all of its text is written
-  broke_push : (lines more : List (List ℕ)) (s : S) (a : Option (List ℕ)) (s' : S) (b : Option (List ℕ)) (n : ℕ) (line : List ℕ) (answer : Answer A) (s'' : S) (c : Option (List ℕ))
+  broke_push : (lines more : List (List ℕ)) (s : S) (a : WriterState) (s' : S) (b : WriterState) (n : ℕ) (line : List ℕ) (answer : Answer A) (s'' : S) (c : WriterState)
       → Did Does lines s a s' b n → Does line s' (Some answer) s'' → AppendsFront b c (text_of answer) → Broke Does (lines ++ line ∷ more) s a s'' c
   broke_push lines more s a s' b n line answer s'' c h d w = record {
     earlier = lines;
@@ -70,7 +73,7 @@ module _ {S A : Type 0} {Does : List ℕ → S → Option (Answer A) → S → T
   }
 
   -- a byte other than LF
-  pub stands_byte : (read : List ℕ) (s : S) (a : Option (List ℕ)) (s' : S) (b : Option (List ℕ)) (n : ℕ) (buffer after : Option (List ℕ)) (byte : ℕ)
+  pub stands_byte : (read : List ℕ) (s : S) (a : WriterState) (s' : S) (b : WriterState) (n : ℕ) (buffer after : Option (List ℕ)) (byte : ℕ)
       → Stands Does read s a s' b n buffer → (byte ≡ 10 → ⊥) → after ≡ pushed buffer byte → Stands Does (read ++ byte ∷ []) s a s' b (n + 0) after
   stands_byte read s a s' b n buffer after byte h ne e =
       let other : nat_eq byte 10 ≡ false = ne_eqb byte 10 ne in
@@ -80,9 +83,9 @@ module _ {S A : Type 0} {Does : List ℕ → S → Option (Answer A) → S → T
       }
 
   -- LF
-  pub stands_line : (read : List ℕ) (s : S) (a : Option (List ℕ)) (s' : S) (b : Option (List ℕ)) (n : ℕ) (buffer after : Option (List ℕ)) (byte : ℕ) (answer : Option (Answer A)) (s'' : S) (c : Option (List ℕ)) (k : ℕ)
+  pub stands_line : (read : List ℕ) (s : S) (a : WriterState) (s' : S) (b : WriterState) (n : ℕ) (buffer after : Option (List ℕ)) (byte : ℕ) (answer : Option (Answer A)) (s'' : S) (c : WriterState) (k : ℕ)
       → Stands Does read s a s' b n buffer → byte ≡ 10 → ((piece : List ℕ) → buffer ≡ kept piece → Does (without_cr piece) s' answer s'')
-      → Appends b c (texts_of (option_to_list answer)) → k ≡ length (option_to_list answer) → after ≡ Some []
+      → Writes b c (texts_of (option_to_list answer)) [] → k ≡ length (option_to_list answer) → after ≡ Some []
       → Stands Does (read ++ byte ∷ []) s a s'' c (n + k) after
   stands_line read s a s' b n buffer after byte answer s'' c k h lf does w e nil =
       let is_lf : nat_eq byte 10 ≡ true = eq-eqb byte 10 lf in
@@ -92,7 +95,7 @@ module _ {S A : Type 0} {Does : List ℕ → S → Option (Answer A) → S → T
         buffer_is = nil ∙ (sym kept_nil ∙ ap kept (sym (last_at_lf read byte is_lf)));
       }
 
-  pub broke_line : (read : List ℕ) (s : S) (a : Option (List ℕ)) (s' : S) (b : Option (List ℕ)) (n : ℕ) (buffer : Option (List ℕ)) (byte : ℕ) (answer : Answer A) (s'' : S) (c : Option (List ℕ))
+  pub broke_line : (read : List ℕ) (s : S) (a : WriterState) (s' : S) (b : WriterState) (n : ℕ) (buffer : Option (List ℕ)) (byte : ℕ) (answer : Answer A) (s'' : S) (c : WriterState)
       → Stands Does read s a s' b n buffer → byte ≡ 10 → ((piece : List ℕ) → buffer ≡ kept piece → Does (without_cr piece) s' (Some answer) s'')
       → AppendsFront b c (text_of answer) → Broke Does (ended_lines (read ++ byte ∷ [])) s a s'' c
   broke_line read s a s' b n buffer byte answer s'' c h lf does w =
@@ -100,19 +103,19 @@ module _ {S A : Type 0} {Does : List ℕ → S → Option (Answer A) → S → T
       (broke_push (ended_lines read) [] s a s' b n (without_cr (pieces_of read).last) answer s'' c h.did (does (pieces_of read).last h.buffer_is) w)
 
   -- the last line
-  pub did_last : (read : List ℕ) (s : S) (a : Option (List ℕ)) (s' : S) (b : Option (List ℕ)) (n : ℕ) (buffer : Option (List ℕ)) (answer : Option (Answer A)) (s'' : S) (c : Option (List ℕ)) (k : ℕ)
+  pub did_last : (read : List ℕ) (s : S) (a : WriterState) (s' : S) (b : WriterState) (n : ℕ) (buffer : Option (List ℕ)) (answer : Option (Answer A)) (s'' : S) (c : WriterState) (k : ℕ)
       → Stands Does read s a s' b n buffer → ((piece : List ℕ) → buffer ≡ kept piece → Does piece s' answer s'')
-      → Appends b c (texts_of (option_to_list answer)) → k ≡ length (option_to_list answer) → Did Does (script_lines read) s a s'' c (n + k)
+      → Writes b c (texts_of (option_to_list answer)) [] → k ≡ length (option_to_list answer) → Did Does (script_lines read) s a s'' c (n + k)
   did_last read s a s' b n buffer answer s'' c k h does w e =
       did_push (ended_lines read) s a s' b n (pieces_of read).last answer s'' c k h.did (does (pieces_of read).last h.buffer_is) w e
 
-  pub broke_last : (read : List ℕ) (s : S) (a : Option (List ℕ)) (s' : S) (b : Option (List ℕ)) (n : ℕ) (buffer : Option (List ℕ)) (answer : Answer A) (s'' : S) (c : Option (List ℕ))
+  pub broke_last : (read : List ℕ) (s : S) (a : WriterState) (s' : S) (b : WriterState) (n : ℕ) (buffer : Option (List ℕ)) (answer : Answer A) (s'' : S) (c : WriterState)
       → Stands Does read s a s' b n buffer → ((piece : List ℕ) → buffer ≡ kept piece → Does piece s' (Some answer) s'')
       → AppendsFront b c (text_of answer) → Broke Does (script_lines read) s a s'' c
   broke_last read s a s' b n buffer answer s'' c h does w =
       broke_push (ended_lines read) [] s a s' b n (pieces_of read).last answer s'' c h.did (does (pieces_of read).last h.buffer_is) w
 
-  broke_wider : (lines others : List (List ℕ)) (s : S) (a : Option (List ℕ)) (s' : S) (b : Option (List ℕ)) → Broke Does lines s a s' b → Broke Does (lines ++ others) s a s' b
+  broke_wider : (lines others : List (List ℕ)) (s : S) (a : WriterState) (s' : S) (b : WriterState) → Broke Does lines s a s' b → Broke Does (lines ++ others) s a s' b
   broke_wider lines others s a s' b h = record {
     earlier = h.earlier;
     line = h.line;
@@ -129,23 +132,23 @@ module _ {S A : Type 0} {Does : List ℕ → S → Option (Answer A) → S → T
   }
 
   -- what broke in the first bytes broke in all of them
-  pub broke_bytes : (read more : List ℕ) (s : S) (a : Option (List ℕ)) (s' : S) (b : Option (List ℕ)) → Broke Does (ended_lines read) s a s' b → Broke Does (ended_lines (read ++ more)) s a s' b
+  pub broke_bytes : (read more : List ℕ) (s : S) (a : WriterState) (s' : S) (b : WriterState) → Broke Does (ended_lines read) s a s' b → Broke Does (ended_lines (read ++ more)) s a s' b
   broke_bytes read more s a s' b h =
       let front = lines_front read more in
       subst (λ (x : List (List ℕ)). Broke Does x s a s' b) (sym front.1) (broke_wider (ended_lines read) front.0 s a s' b h)
 
   -- the same bytes, and the same count
-  pub stands_is : (read same : List ℕ) (s : S) (a : Option (List ℕ)) (s' : S) (b : Option (List ℕ)) (n m : ℕ) (buffer : Option (List ℕ)) → read ≡ same → n ≡ m → Stands Does read s a s' b n buffer → Stands Does same s a s' b m buffer
+  pub stands_is : (read same : List ℕ) (s : S) (a : WriterState) (s' : S) (b : WriterState) (n m : ℕ) (buffer : Option (List ℕ)) → read ≡ same → n ≡ m → Stands Does read s a s' b n buffer → Stands Does same s a s' b m buffer
   stands_is read same s a s' b n m buffer e f h = subst (λ (x : List ℕ). Stands Does x s a s' b m buffer) e (subst (λ (k : ℕ). Stands Does read s a s' b k buffer) f h)
 
-  pub broke_is : (read same : List ℕ) (s : S) (a : Option (List ℕ)) (s' : S) (b : Option (List ℕ)) → read ≡ same → Broke Does (ended_lines read) s a s' b → Broke Does (ended_lines same) s a s' b
+  pub broke_is : (read same : List ℕ) (s : S) (a : WriterState) (s' : S) (b : WriterState) → read ≡ same → Broke Does (ended_lines read) s a s' b → Broke Does (ended_lines same) s a s' b
   broke_is read same s a s' b e h = subst (λ (x : List ℕ). Broke Does (ended_lines x) s a s' b) e h
 
   -- nothing is read yet
-  pub stands_none : (s : S) (a : Option (List ℕ)) (buffer : Option (List ℕ)) → buffer ≡ Some [] → Stands Does [] s a s a 0 buffer
+  pub stands_none : (s : S) (a : WriterState) (buffer : Option (List ℕ)) → buffer ≡ Some [] → Stands Does [] s a s a 0 buffer
   unfolding Runs pieces_of
   stands_none s a buffer e = record {
-    did = record { answers = []; runs = (refl, refl); written = Appends-nil a; counted = refl };
+    did = record { answers = []; runs = (refl, refl); written = Writes-none a; counted = refl };
     buffer_is = e ∙ sym kept_nil;
   }
 
@@ -159,35 +162,58 @@ chunk_rest read bytes i = append_assoc read (take i bytes) (drop i bytes) ∙ ap
 pub chunk_all : (read bytes : List ℕ) (i : ℕ) → length bytes ≤ i → read ++ take i bytes ≡ read ++ bytes
 chunk_all read bytes i h = ap (λ (t : List ℕ). read ++ t) (take_all i bytes h)
 
--- a read that gave nothing
-pub consumes_zero : (a b c : Option (List ℕ)) (read chunk : List ℕ) (n : ℕ) → Consumes a b read → Consumes b c (take n chunk) → n ≡ 0 → Consumes a c read
-consumes_zero a b c read chunk n p q e =
-    let h : Consumes a c (read ++ take n chunk) = Consumes-trans a b c read (take n chunk) p q in
-    let same : read ++ take n chunk ≡ read = ap (λ (k : ℕ). read ++ take k chunk) e ∙ append-nil read in
-    subst (λ (t : List ℕ). Consumes a c t) same h
+-- no read yet
+reads_none : (r : ReaderState) → Reads r r [] 0 []
+reads_none r = record { consumed = Consumes-nil r.left; reads = calls_none r.reads; least = omega arith; most = omega arith }
+
+-- a read that gave some bytes
+pub reads_more : (old mid new : ReaderState) (read bytes : List ℕ) (k : ℕ) → Reads old mid read k [] → Consumes mid.left new.left bytes → new.reads ≡ with_calls mid.reads (true ∷ []) → 0 < length bytes → length bytes ≤ 4096 → Reads old new (read ++ bytes) (k + 1) []
+reads_more old mid new read bytes k h consumed calls some few = record {
+  consumed = Consumes-trans old.left mid.left new.left read bytes h.consumed consumed;
+  reads = calls_trans old.reads mid.reads new.reads k 1 [] h.reads calls;
+  least = omega (arith, h.least, length-append read bytes);
+  most = omega (arith, h.most, length-append read bytes);
+}
+
+-- one that failed
+pub reads_failed : (old mid new : ReaderState) (read : List ℕ) (k : ℕ) → Reads old mid read k [] → Keeps mid.left new.left → new.reads ≡ with_calls mid.reads (false ∷ []) → Reads old new read k (false ∷ [])
+reads_failed old mid new read k h kept calls = record {
+  consumed = Consumes-kept old.left mid.left new.left read h.consumed kept;
+  reads = calls_last old.reads mid.reads new.reads k false h.reads calls;
+  least = h.least;
+  most = h.most;
+}
+
+-- one that gave nothing
+pub reads_ended : (old mid new : ReaderState) (read chunk : List ℕ) (n k : ℕ) → Reads old mid read k [] → Consumes mid.left new.left (take n chunk) → new.reads ≡ with_calls mid.reads (true ∷ []) → n ≡ 0 → Reads old new read k (true ∷ [])
+reads_ended old mid new read chunk n k h consumed calls none =
+    let all : Consumes old.left new.left (read ++ take n chunk) = Consumes-trans old.left mid.left new.left read (take n chunk) h.consumed consumed in
+    let same : read ++ take n chunk ≡ read = ap (λ (j : ℕ). read ++ take j chunk) none ∙ append-nil read in
+    record {
+      consumed = subst (λ (t : List ℕ). Consumes old.left new.left t) same all;
+      reads = calls_last old.reads mid.reads new.reads k true h.reads calls;
+      least = h.least;
+      most = h.most;
+    }
 
 -- where a session stands after k reads, each of 1 to 4,096 bytes
-pub record Reached {S A : Type 0} (Does : List ℕ → S → Option (Answer A) → S → Type 0) (k : ℕ) (old new : Option (List ℕ)) (s : S) (a : Option (List ℕ)) (s' : S) (b : Option (List ℕ)) (n : ℕ) (buffer : Option (List ℕ)) : Type 0 where
+pub record Reached {S A : Type 0} (Does : List ℕ → S → Option (Answer A) → S → Type 0) (k : ℕ) (old new : ReaderState) (s : S) (a : WriterState) (s' : S) (b : WriterState) (n : ℕ) (buffer : Option (List ℕ)) : Type 0 where
   pub read : List ℕ
-  pub consumed : Consumes old new read
+  pub reads : Reads old new read k []
   pub stands : Stands Does read s a s' b n buffer
-  pub least : k ≤ length read
-  pub most : length read ≤ 4096 * k
 
 module _ {S A : Type 0} {Does : List ℕ → S → Option (Answer A) → S → Type 0} where
-  pub reached_none : (r : Option (List ℕ)) (s : S) (a : Option (List ℕ)) (buffer : Option (List ℕ)) → buffer ≡ Some [] → Reached Does 0 r r s a s a 0 buffer
-  reached_none r s a buffer e = record { read = []; consumed = Consumes-nil r; stands = stands_none s a buffer e; least = omega arith; most = omega arith }
+  pub reached_none : (r : ReaderState) (s : S) (a : WriterState) (buffer : Option (List ℕ)) → buffer ≡ Some [] → Reached Does 0 r r s a s a 0 buffer
+  reached_none r s a buffer e = record { read = []; reads = reads_none r; stands = stands_none s a buffer e }
 
-  pub reached_more : (k : ℕ) (old mid new : Option (List ℕ)) (s : S) (a : Option (List ℕ)) (s' : S) (b : Option (List ℕ)) (n : ℕ) (buffer : Option (List ℕ)) (bytes : List ℕ) (s'' : S) (c : Option (List ℕ)) (m : ℕ) (after : Option (List ℕ))
-      (h : Reached Does k old mid s a s' b n buffer) → Consumes mid new bytes → 0 < length bytes → length bytes ≤ 4096 → Stands Does (h.read ++ bytes) s a s'' c m after → Reached Does (k + 1) old new s a s'' c m after
-  reached_more k old mid new s a s' b n buffer bytes s'' c m after h e some few t = record {
-    read = h.read ++ bytes;
-    consumed = Consumes-trans old mid new h.read bytes h.consumed e;
-    stands = t;
-    least = omega (arith, h.least, length-append h.read bytes);
-    most = omega (arith, h.most, length-append h.read bytes);
-  }
+  pub reached_more : (k : ℕ) (old mid new : ReaderState) (s : S) (a : WriterState) (s' : S) (b : WriterState) (n : ℕ) (buffer : Option (List ℕ)) (bytes : List ℕ) (s'' : S) (c : WriterState) (m : ℕ) (after : Option (List ℕ))
+      (h : Reached Does k old mid s a s' b n buffer) → Consumes mid.left new.left bytes → new.reads ≡ with_calls mid.reads (true ∷ []) → 0 < length bytes → length bytes ≤ 4096 → Stands Does (h.read ++ bytes) s a s'' c m after → Reached Does (k + 1) old new s a s'' c m after
+  reached_more k old mid new s a s' b n buffer bytes s'' c m after h e calls some few t =
+      record { read = h.read ++ bytes; reads = reads_more old mid new h.read bytes k h.reads e calls some few; stands = t }
 
 -- how many bytes a read gave
 pub length-taken : (n : ℕ) (buffer : List ℕ) → length buffer ≡ 4096 → n ≤ length buffer → (n ≡ 0 → ⊥) → (0 < length (take n buffer)) × (length (take n buffer) ≤ 4096)
 length-taken n buffer size within some = (omega (arith, length-take n buffer), omega (arith, length-take n buffer))
+
+pub some_room : (buffer : List ℕ) → length buffer ≡ 4096 → 0 < length buffer
+some_room buffer size = omega arith

@@ -22,7 +22,7 @@ pub record MemoryFiles : Type 0 where
   pub refusals : ℕ
 
 abbrev pub store_of : MemoryFiles → StoreState
-store_of memory = record { files = Some (bytes_under None memory.files); refusals = memory.refusals }
+store_of memory = record { files = Some (bytes_under None memory.files); refusals = memory.refusals; calls = None }
 
 -- one more file is put
 abbrev pub with_file : List ℕ → List ℕ → MemoryFiles → MemoryFiles

@@ -13,6 +13,7 @@ pub mod Confinement
 pub mod FlushLaws
 pub mod Script
 pub mod Buffer
+pub mod Readers
 pub mod Store
 pub mod Files
 pub mod Session

@@ -3,7 +3,6 @@ use Rattle.std.specs.Prelude.{◌≡◌, ◌⊎◌, ℕ, Bool, true, nat_eq, nat
 use Rattle.std.specs.Option.{option_to_list}
 use Rattle.std.specs.List.{flat_map}
 use Rattle.std.specs.Bool.{MatchBool}
-use Rattle.std.specs.Io.KnownBytes.{Appends}
 use Rattle.p11_lines.specs.declared.answer.Answer.{Answer}
 use Rattle.p11_lines.specs.declared.answer.Answer.TheVariants as answers
 use Rattle.p11_lines.specs.declared.fault.Fault.{Fault}
@@ -14,6 +13,7 @@ use Rattle.p11_lines.specs.AnswerText.{text_of}
 use Rattle.p11_lines.specs.Grammar.{is_blank, line_from}
 use Rattle.p11_lines.specs.Reading.{holds_list}
 use Rattle.p11_lines.specs.Written.{AppendsFront}
+use Rattle.p11_lines.specs.Writers.{WriterState, Writes}
 use Rattle.p11_cpu.specs.State.{State}
 use Rattle.p11_panel.specs.Refusals.{IsRefused}
 use Rattle.p11_panel.specs.Store.{StoreState, Fetches, FailsToFetch, Puts, FailsToPut}
@@ -116,18 +116,17 @@ module _ {S A : Type 0} (Does : List ℕ → S → Option (Answer A) → S → T
       (answer : Option (Answer A)) × (s' : S) × (others : List (Answer A))
       × Does line s answer s' × Runs lines s' others s'' × (answers ≡ option_to_list answer ++ others)
 
-  -- These lines are done: from s to s', with so many answers; and their text is written, from the bytes old to new.
-  pub record Did (lines : List (List ℕ)) (s : S) (old : Option (List ℕ)) (s' : S) (new : Option (List ℕ)) (count : ℕ)
+  -- These lines are done: from s to s', with so many answers; and their text is written: no write fails.
+  pub record Did (lines : List (List ℕ)) (s : S) (old : WriterState) (s' : S) (new : WriterState) (count : ℕ)
       : Type 0 where
     pub answers : List (Answer A)
     pub runs : Runs lines s answers s'
-    pub written : Appends old new (texts_of answers)
+    pub written : Writes old new (texts_of answers) []
     pub counted : count ≡ length answers
 
   -- Of these lines just those up to one are done, itself included. All earlier texts are written whole, and of its own
-  -- text a front that isn't all of it.
-  pub record Broke (lines : List (List ℕ)) (s : S) (old : Option (List ℕ)) (s' : S) (new : Option (List ℕ))
-      : Type 0 where
+  -- text a front that isn't all of it, since the last write failed or took nothing.
+  pub record Broke (lines : List (List ℕ)) (s : S) (old : WriterState) (s' : S) (new : WriterState) : Type 0 where
     pub earlier : List (List ℕ)
     pub line : List ℕ
     pub others : List (List ℕ)
@@ -137,6 +136,6 @@ module _ {S A : Type 0} (Does : List ℕ → S → Option (Answer A) → S → T
     pub runs : Runs earlier s answers before
     pub answer : Answer A
     pub does : Does line before (Some answer) s'
-    pub between : Option (List ℕ)
-    pub whole : Appends old between (texts_of answers)
+    pub between : WriterState
+    pub whole : Writes old between (texts_of answers) []
     pub part : AppendsFront between new (text_of answer)

@@ -2,7 +2,6 @@
 ghost use Rattle.p11_panel.specs.FlushLaws.{FlushShowsNothing, LinesShowNothing};
 ghost use Rattle.p11_panel.specs.Laws.{RunsHaveOneOutcome, CommandsHaveOneOutcome, ListsHaveOneOutcome};
 
-use p11_tape::{fault_or_meaning, one_meaning};
 use std::alloc::Allocator;
 
 /// Two runs of the same number of turns from the same state, neither of which want of memory stopped, make the same
@@ -16,8 +15,6 @@ pub fn a_command_has_one_outcome<A: Allocator>()
     ensures { CommandsHaveOneOutcome A }
 {
     a_run_has_one_outcome();
-    one_meaning();
-    fault_or_meaning();
 }
 
 /// A list of commands has one list of answers and one last state, where memory refused and stopped none of them.
@@ -25,8 +22,6 @@ pub fn a_list_has_one_outcome<A: Allocator>()
     ensures { ListsHaveOneOutcome A }
 {
     a_run_has_one_outcome();
-    one_meaning();
-    fault_or_meaning();
 }
 
 /// A flush may be taken out of a list of commands anywhere: no other answer changes and the last state doesn't, where
@@ -35,8 +30,6 @@ pub fn flush_shows_nothing<A: Allocator>()
     ensures { FlushShowsNothing A }
 {
     a_run_has_one_outcome();
-    one_meaning();
-    fault_or_meaning();
 }
 
 /// New machines with as much memory give the same answers and come to the same state, whatever the number of their
@@ -45,6 +38,4 @@ pub fn the_number_of_lines_shows_nothing<A: Allocator>()
     ensures { LinesShowNothing A }
 {
     a_run_has_one_outcome();
-    one_meaning();
-    fault_or_meaning();
 }

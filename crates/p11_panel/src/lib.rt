@@ -18,6 +18,7 @@ mod refusal;
 mod run;
 mod script;
 mod shown;
+mod source;
 mod store;
 
 pub use command::Command;
@@ -30,10 +31,11 @@ pub use laws::{
 pub use memory_store::MemoryStore;
 pub use p11_lines::{
     Answer, Bytes, Devices, DiskRegisters, DriveShown, Fault, Line, LineRegisters,
-    ManagementRegisters, Mark, NoMemory, Registers, Requests, StopReason, Words, line_of,
-    parse_line,
+    ManagementRegisters, Mark, NoMemory, Registers, Requests, Sink, StdWriter, StopReason, Words,
+    line_of, parse_line,
 };
 pub use panel::Panel;
 pub use playing::play;
 pub use script::{SessionFault, session};
+pub use source::{Source, StdReader};
 pub use store::{Refusals, Store, StoreError};

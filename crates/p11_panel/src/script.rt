@@ -1,18 +1,20 @@
-ghost use Rattle.std.specs.Prelude.{◌≡◌, ◌≤◌, ◌+◌, ◌*◌, ◌++◌, ◌∷◌, [], ◌⊎◌, ℕ, List, Option, Some, length};
+ghost use Rattle.std.specs.Prelude.{◌≡◌, ◌≤◌, ◌<◌, ◌+◌, ◌++◌, ◌∷◌, [], ◌⊎◌, ℕ, true, false, List, Option, Some, length};
 ghost use Rattle.std.specs.Prelude.{IfOk, OnErr, IsErrOf};
-ghost use Rattle.std.specs.Io.KnownBytes.{Consumes, IsAtEnd};
+ghost use Rattle.std.specs.Io.KnownBytes.{IsAtEnd};
+ghost use Rattle.p11_lines.specs.Writers.{WriterState};
 ghost use Rattle.p11_panel.specs.Buffer.{kept};
 ghost use Rattle.p11_panel.specs.Script.{without_cr, ended_lines, script_lines};
+ghost use Rattle.p11_panel.specs.Readers.{Reads};
 ghost use Rattle.p11_panel.specs.Session.{SessionState, with_store, LineDoes, Did, Broke};
 ghost use Rattle.p11_panel.specs.Standing.{Stands};
 
 use crate::answering::do_line;
 use crate::line_buffer::LineBuffer;
 use crate::panel::Panel;
+use crate::source::Source;
 use crate::store::Store;
-use p11_lines::{Answer, Broken, Fault, put_answer};
+use p11_lines::{Answer, Broken, Fault, Sink, put_answer};
 use std::alloc::Allocator;
-use std::io::{Read, Write};
 use thiserror::Error;
 
 /// Why a session ended before its script did.
@@ -86,7 +88,7 @@ fn last_line<A: Allocator + Copy, S: Store>(
 }
 
 /// Takes the next byte of the script: how many lines were answered.
-fn feed_byte<A: Allocator + Copy, S: Store, W: Write>(
+fn feed_byte<A: Allocator + Copy, S: Store, W: Sink>(
     alloc: A,
     panel: &mut Panel<A>,
     store: &mut S,
@@ -94,16 +96,16 @@ fn feed_byte<A: Allocator + Copy, S: Store, W: Write>(
     buffer: &mut LineBuffer,
     byte: u8,
 ) -> Result<u32, Broken>
-    ensures ok { IfOk result (λ n. (read : List ℕ) (s : SessionState) (start : Option (List ℕ)) (count : ℕ)
+    ensures ok { IfOk result (λ n. (read : List ℕ) (s : SessionState) (start : WriterState) (count : ℕ)
         → Stands (LineDoes {A = A}) read s start (with_store panel.old (S.state store.old))
-        (W.contents writer.old) count buffer.old
+        (W.state writer.old) count buffer.old
         → Stands (LineDoes {A = A}) (read ++ byte ∷ []) s start
-        (with_store panel.new (S.state store.new)) (W.contents writer.new) (count + n) buffer.new) }
-    ensures err { OnErr result ((read : List ℕ) (s : SessionState) (start : Option (List ℕ)) (count : ℕ)
+        (with_store panel.new (S.state store.new)) (W.state writer.new) (count + n) buffer.new) }
+    ensures err { OnErr result ((read : List ℕ) (s : SessionState) (start : WriterState) (count : ℕ)
         → Stands (LineDoes {A = A}) read s start (with_store panel.old (S.state store.old))
-        (W.contents writer.old) count buffer.old
+        (W.state writer.old) count buffer.old
         → Broke (LineDoes {A = A}) (ended_lines (read ++ byte ∷ [])) s start (with_store panel.new (S.state store.new))
-        (W.contents writer.new)) }
+        (W.state writer.new)) }
     ensures one { IfOk result (λ n. n ≤ 1) }
 {
     if byte != b'\n' {
@@ -120,7 +122,7 @@ fn feed_byte<A: Allocator + Copy, S: Store, W: Write>(
 }
 
 /// Takes the next bytes of the script: how many lines were answered.
-fn feed<A: Allocator + Copy, S: Store, W: Write>(
+fn feed<A: Allocator + Copy, S: Store, W: Sink>(
     alloc: A,
     panel: &mut Panel<A>,
     store: &mut S,
@@ -129,16 +131,16 @@ fn feed<A: Allocator + Copy, S: Store, W: Write>(
     bytes: &[u8],
 ) -> Result<u32, Broken>
     requires { length bytes.now ≤ 4096 }
-    ensures ok { IfOk result (λ n. (read : List ℕ) (s : SessionState) (start : Option (List ℕ)) (count : ℕ)
+    ensures ok { IfOk result (λ n. (read : List ℕ) (s : SessionState) (start : WriterState) (count : ℕ)
         → Stands (LineDoes {A = A}) read s start (with_store panel.old (S.state store.old))
-        (W.contents writer.old) count buffer.old
+        (W.state writer.old) count buffer.old
         → Stands (LineDoes {A = A}) (read ++ bytes.now) s start
-        (with_store panel.new (S.state store.new)) (W.contents writer.new) (count + n) buffer.new) }
-    ensures err { OnErr result ((read : List ℕ) (s : SessionState) (start : Option (List ℕ)) (count : ℕ)
+        (with_store panel.new (S.state store.new)) (W.state writer.new) (count + n) buffer.new) }
+    ensures err { OnErr result ((read : List ℕ) (s : SessionState) (start : WriterState) (count : ℕ)
         → Stands (LineDoes {A = A}) read s start (with_store panel.old (S.state store.old))
-        (W.contents writer.old) count buffer.old
+        (W.state writer.old) count buffer.old
         → Broke (LineDoes {A = A}) (ended_lines (read ++ bytes.now)) s start (with_store panel.new (S.state store.new))
-        (W.contents writer.new)) }
+        (W.state writer.new)) }
     ensures few { IfOk result (λ n. n ≤ length bytes.now) }
 {
     let mut answered = 0;
@@ -149,23 +151,23 @@ fn feed<A: Allocator + Copy, S: Store, W: Write>(
 }
 
 /// Does the last line of the script: how many lines were answered.
-fn finish<A: Allocator + Copy, S: Store, W: Write>(
+fn finish<A: Allocator + Copy, S: Store, W: Sink>(
     alloc: A,
     panel: &mut Panel<A>,
     store: &mut S,
     writer: &mut W,
     buffer: &LineBuffer,
 ) -> Result<u32, Broken>
-    ensures ok { IfOk result (λ n. (read : List ℕ) (s : SessionState) (start : Option (List ℕ)) (count : ℕ)
+    ensures ok { IfOk result (λ n. (read : List ℕ) (s : SessionState) (start : WriterState) (count : ℕ)
         → Stands (LineDoes {A = A}) read s start (with_store panel.old (S.state store.old))
-        (W.contents writer.old) count buffer.now
+        (W.state writer.old) count buffer.now
         → Did (LineDoes {A = A}) (script_lines read) s start (with_store panel.new (S.state store.new))
-        (W.contents writer.new) (count + n)) }
-    ensures err { OnErr result ((read : List ℕ) (s : SessionState) (start : Option (List ℕ)) (count : ℕ)
+        (W.state writer.new) (count + n)) }
+    ensures err { OnErr result ((read : List ℕ) (s : SessionState) (start : WriterState) (count : ℕ)
         → Stands (LineDoes {A = A}) read s start (with_store panel.old (S.state store.old))
-        (W.contents writer.old) count buffer.now
+        (W.state writer.old) count buffer.now
         → Broke (LineDoes {A = A}) (script_lines read) s start (with_store panel.new (S.state store.new))
-        (W.contents writer.new)) }
+        (W.state writer.new)) }
     ensures one { IfOk result (λ n. n ≤ 1) }
 {
     let Some(answer) = last_line(alloc, panel, store, buffer) else {
@@ -184,46 +186,49 @@ fn finish<A: Allocator + Copy, S: Store, W: Write>(
 ///
 /// # Errors
 ///
-/// `Reading` where the reader failed, and `TooLong` where 1,000,000 reads of at most 4,096 bytes found no end: the
-/// lines that LF ended in what was read are done, and all their text is written. `Writing` where the writer failed or
-/// took nothing: just the lines up to one are done, itself included. All earlier texts are whole, and of its own text
-/// a front is written, but not all. LF has ended that line, or it is the last of a script that was read to its end.
-pub fn session<A: Allocator + Copy, S: Store, R: Read, W: Write>(
+/// `Reading` where a read failed, and `TooLong` where 1,000,000 reads of at most 4,096 bytes found no end: the lines
+/// that LF ended in what was read are done, and all their text is written. `Writing` where a write failed or took
+/// nothing: just the lines up to one are done, itself included. All earlier texts are whole, and of its own text a front
+/// is written, but not all. LF has ended that line, or it is the last of a script that was read to its end. A call that
+/// failed is the last one of its kind: it is never tried again.
+pub fn session<A: Allocator + Copy, S: Store, R: Source, W: Sink>(
     alloc: A,
     panel: &mut Panel<A>,
     store: &mut S,
     reader: &mut R,
     writer: &mut W,
 ) -> Result<u32, SessionFault>
-    // The script was read to its end, all its lines are done, and their text is written.
-    ensures ok { IfOk result (λ m. (read : List ℕ) × Consumes (R.remaining reader.old) (R.remaining reader.new) read
-        × IsAtEnd (R.remaining reader.new) × (length read ≤ 999999 * 4096)
+    // The script was read to its end, all its lines are done, and their text is written: nothing failed.
+    ensures ok { IfOk result (λ m. (read : List ℕ) × (n : ℕ)
+        × Reads (R.state reader.old) (R.state reader.new) read n (true ∷ []) × (n ≤ 999999)
+        × IsAtEnd (R.state reader.new).left
         × Did (LineDoes {A = A}) (script_lines read)
-        (with_store panel.old (S.state store.old)) (W.contents writer.old) (with_store panel.new (S.state store.new))
-        (W.contents writer.new) m) }
-    // The lines that LF ended in what was read are done, and their text is written.
-    ensures reading { IsErrOf result SessionFault.Reading → (read : List ℕ) × (m : ℕ)
-        × Consumes (R.remaining reader.old) (R.remaining reader.new) read
+        (with_store panel.old (S.state store.old)) (W.state writer.old) (with_store panel.new (S.state store.new))
+        (W.state writer.new) m) }
+    // The last read failed, and no other. The lines that LF ended in what was read are done, and their text is written.
+    ensures reading { IsErrOf result SessionFault.Reading → (read : List ℕ) × (m : ℕ) × (n : ℕ)
+        × Reads (R.state reader.old) (R.state reader.new) read n (false ∷ []) × (n ≤ 999999)
         × Did (LineDoes {A = A}) (ended_lines read)
-        (with_store panel.old (S.state store.old)) (W.contents writer.old) (with_store panel.new (S.state store.new))
-        (W.contents writer.new) m }
-    // The same, of 1,000,000 reads, each of 1 to 4,096 bytes.
-    ensures long { IsErrOf result SessionFault.TooLong → (read : List ℕ) × (m : ℕ)
-        × Consumes (R.remaining reader.old) (R.remaining reader.new) read
-        × (1000000 ≤ length read) × (length read ≤ 1000000 * 4096)
+        (with_store panel.old (S.state store.old)) (W.state writer.old) (with_store panel.new (S.state store.new))
+        (W.state writer.new) m }
+    // The same, of just 1,000,000 reads, none of which failed.
+    ensures long { IsErrOf result SessionFault.TooLong → (read : List ℕ) × (m : ℕ) × (n : ℕ)
+        × Reads (R.state reader.old) (R.state reader.new) read n [] × (n ≡ 1000000)
         × Did (LineDoes {A = A}) (ended_lines read)
-        (with_store panel.old (S.state store.old)) (W.contents writer.old) (with_store panel.new (S.state store.new))
-        (W.contents writer.new) m }
-    // Just the lines up to one are done, which LF ended, or which is the last of a script that was read to its end.
-    ensures broke { IsErrOf result SessionFault.Writing → (read : List ℕ)
-        × Consumes (R.remaining reader.old) (R.remaining reader.new) read
-        × (Broke (LineDoes {A = A}) (ended_lines read)
-        (with_store panel.old (S.state store.old)) (W.contents writer.old) (with_store panel.new (S.state store.new))
-        (W.contents writer.new)
-        ⊎ (IsAtEnd (R.remaining reader.new)
+        (with_store panel.old (S.state store.old)) (W.state writer.old) (with_store panel.new (S.state store.new))
+        (W.state writer.new) m }
+    // No read failed. Just the lines up to one are done, which LF ended, or which is the last of a script that was read
+    // to its end.
+    ensures broke { IsErrOf result SessionFault.Writing → (read : List ℕ) × (n : ℕ)
+        × ((Reads (R.state reader.old) (R.state reader.new) read n [] × (n ≤ 1000000)
+        × Broke (LineDoes {A = A}) (ended_lines read)
+        (with_store panel.old (S.state store.old)) (W.state writer.old) (with_store panel.new (S.state store.new))
+        (W.state writer.new))
+        ⊎ (Reads (R.state reader.old) (R.state reader.new) read n (true ∷ []) × (n ≤ 999999)
+        × IsAtEnd (R.state reader.new).left
         × Broke (LineDoes {A = A}) (script_lines read)
-        (with_store panel.old (S.state store.old)) (W.contents writer.old) (with_store panel.new (S.state store.new))
-        (W.contents writer.new))) }
+        (with_store panel.old (S.state store.old)) (W.state writer.old) (with_store panel.new (S.state store.new))
+        (W.state writer.new))) }
 {
     let mut buffer = LineBuffer::new();
     let mut chunk = [0; 4096];

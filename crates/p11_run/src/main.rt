@@ -4,7 +4,9 @@
 //! answers to standard output.
 #![tactic(auto)]
 
-ghost use Rattle.std.specs.Prelude.{◌≡◌, ◌<◌};
+ghost use Rattle.std.specs.Prelude.{◌≡◌, ◌<◌, Bool};
+ghost use Rattle.std.specs.Process.{exit_status};
+ghost use Rattle.p11_run.specs.Endings.{status_after};
 
 mod ending;
 mod script_reader;
@@ -16,18 +18,24 @@ use crate::ending::{Cause, ending, ending_after};
 use crate::script_reader::ScriptReader;
 use crate::settings::{Launch, settings};
 use p11_files::FileStore;
-use p11_panel::{Panel, session};
+use p11_panel::{Panel, StdReader, StdWriter, session};
 use std::marker::Brand;
 use std::process::ExitCode;
 use std::sync::ledger::{Blank, Ledger};
 use std::{env, io};
 
 fn main(rt: HostRuntime) -> ExitCode {
-    let cause = match run(&rt) {
-        Ok(()) => Cause::Done,
-        Err(cause) => cause,
-    };
-    let (status, rest) = ending_after(&cause, say(&rt, &cause));
+    match run(&rt) {
+        Ok(()) => finish(&rt, &Cause::Done),
+        Err(cause) => finish(&rt, &cause),
+    }
+}
+
+/// Says why the program ends: its exit status, which depends on whether that could be said.
+fn finish(rt: &HostRuntime, cause: &Cause) -> ExitCode
+    ensures { (said : Bool) × (exit_status result ≡ status_after cause.now said) }
+{
+    let (status, rest) = ending_after(cause, say(rt, cause));
     let _ = rt.eprint(rest);
     ExitCode::from(status)
 }
@@ -67,7 +75,7 @@ fn words(rt: &HostRuntime) -> Result<Vec<String>, Cause> {
 }
 
 /// Makes the machine, opens the script and runs the session.
-fn run_script(rt: &HostRuntime, launch: &Launch<'_>) -> Result<(), Cause> {
+pub(crate) fn run_script(rt: &HostRuntime, launch: &Launch<'_>) -> Result<(), Cause> {
     run_counted::<Brand>(rt, launch, Blank::new(1))
 }
 
@@ -79,13 +87,12 @@ fn run_counted<L: Ledger>(rt: &HostRuntime, launch: &Launch<'_>, blank: Blank) -
 {
     let mut panel = Panel::new(rt.alloc(), launch.config)?;
     let mut store = FileStore::<L>::new(rt, blank);
-    let mut script = ScriptReader::open(rt, launch)?;
-    session(
-        rt.alloc(),
-        &mut panel,
-        &mut store,
-        &mut script,
-        &mut io::writer(rt),
-    )?;
+    let mut script = StdReader {
+        inner: ScriptReader::open(rt, launch)?,
+    };
+    let mut output = StdWriter {
+        inner: io::writer(rt),
+    };
+    session(rt.alloc(), &mut panel, &mut store, &mut script, &mut output)?;
     Ok(())
 }

@@ -1,8 +1,10 @@
 // What the program answers to command lines, and how it ends.
 use crate::ending::{Cause, ending, ending_after};
+use crate::run_script;
 use crate::settings::settings;
 use p11_panel::SessionFault;
 use std::alloc::{AllocError, Global};
+use std::fs;
 use std::test::Fail;
 
 /// Command lines that are taken, thousands of words of memory, the number of decoded words, and the script.
@@ -125,5 +127,34 @@ fn help_that_cannot_be_said_is_a_write_fault(rt: HostRuntime) -> Result<(), Fail
     let help = Cause::Help(String::from_str(rt.alloc(), "help\n")?);
     assert_eq!(rt; ending_after(&help, true), (0, ""));
     assert_eq!(rt; ending_after(&help, false), (1, "p11: write fault\n"));
+    Ok(())
+}
+
+/// How the program ends over a script.
+fn ended(rt: &HostRuntime, script: &str) -> Result<Cause, Fail> {
+    let words = words(rt.alloc(), script)?;
+    let Ok(launch) = settings(rt.alloc(), words.as_slice()) else {
+        return Err(Fail::from("a command line is refused"));
+    };
+    match run_script(rt, &launch) {
+        Ok(()) => Ok(Cause::Done),
+        Err(cause) => Ok(cause),
+    }
+}
+
+#[test]
+fn a_script_that_cannot_be_read_ends_the_program(rt: HostRuntime) -> Result<(), Fail> {
+    fs::write(&rt, "p11_script", b"# nothing\n".as_slice())?;
+    let cause = ended(&rt, "p11_script")?;
+    assert_eq!(rt; ending(&cause), (0, ""));
+    fs::remove_file(&rt, "p11_script")?;
+    let cause = ended(&rt, "p11_script")?;
+    assert_eq!(rt; ending(&cause), (1, "p11: read fault\n"), "it is missing");
+    let cause = ended(&rt, ".")?;
+    assert_eq!(rt;
+        ending(&cause),
+        (1, "p11: read fault\n"),
+        "a folder is opened, and no read of it goes well"
+    );
     Ok(())
 }

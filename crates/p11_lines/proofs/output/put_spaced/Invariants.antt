@@ -4,4 +4,4 @@ use Rattle.p11_lines.specs.Written.{Wrote}
 use Rattle.p11_lines.proofs.output.put_spaced.Given as goal
 
 abbrev pub invariant-loop-word : goal.invariant-loop-word
-invariant-loop-word g l = Wrote (g.W.Write.contents l.fn.writer) (g.W.Write.contents l.writer) (l.fn.table.items ++ spaced_text l.words) (l.table.items ++ spaced_text (drop l.word-index l.words))
+invariant-loop-word g l = Wrote (g.W.Sink.state l.fn.writer) (g.W.Sink.state l.writer) (l.fn.table.items ++ spaced_text l.words) (l.table.items ++ spaced_text (drop l.word-index l.words))

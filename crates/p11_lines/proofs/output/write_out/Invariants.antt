@@ -3,7 +3,7 @@ use Rattle.p11_lines.specs.Written.{Wrote}
 use Rattle.p11_lines.proofs.output.write_out.Given as goal
 
 abbrev pub invariant-loop-rest : goal.invariant-loop-rest
-invariant-loop-rest g l = Wrote (g.W.Write.contents l.fn.writer) (g.W.Write.contents l.writer) l.fn.piece l.rest
+invariant-loop-rest g l = Wrote (g.W.Sink.state l.fn.writer) (g.W.Sink.state l.writer) l.fn.piece l.rest
 
 abbrev pub decreases-loop-rest : goal.decreases-loop-rest
 decreases-loop-rest g l = length l.rest

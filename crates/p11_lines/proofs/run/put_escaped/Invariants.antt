@@ -4,4 +4,4 @@ use Rattle.p11_lines.specs.Written.{Wrote}
 use Rattle.p11_lines.proofs.run.put_escaped.Given as goal
 
 abbrev pub invariant-loop-byte : goal.invariant-loop-byte
-invariant-loop-byte g l = Wrote (g.W.Write.contents l.fn.writer) (g.W.Write.contents l.writer) (l.fn.table.items ++ escaped l.bytes) (l.table.items ++ escaped (drop l.byte-index l.bytes))
+invariant-loop-byte g l = Wrote (g.W.Sink.state l.fn.writer) (g.W.Sink.state l.writer) (l.fn.table.items ++ escaped l.bytes) (l.table.items ++ escaped (drop l.byte-index l.bytes))
