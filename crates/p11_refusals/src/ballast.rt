@@ -1,4 +1,4 @@
-use crate::wrong::{Wrong, bad_line};
+use p11_test_data::{Wrong, bad_line};
 use std::alloc::{AllocError, Allocator, Global};
 
 /// How often something is tried at most.

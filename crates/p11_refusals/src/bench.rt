@@ -1,7 +1,7 @@
 use crate::case::Setting;
 use crate::shelf::Shelf;
-use crate::wrong::{Wrong, bad_line};
-use p11_panel::{Panel, session};
+use p11_panel::{Panel, StdReader, StdWriter, session};
+use p11_test_data::{Wrong, bad_line};
 use std::alloc::{Allocator, Global};
 use std::sync::ledger::Ledger;
 
@@ -16,15 +16,20 @@ pub(crate) struct Bench<L: Ledger, A: Allocator> {
 impl<L: Ledger, A: Allocator + Copy> Bench<L, A> {
     /// What a session over a script answers.
     pub(crate) fn ask(&mut self, alloc: Global, script: &str) -> Result<String, Wrong> {
-        let mut reader = script.as_bytes();
+        let mut reader = StdReader {
+            inner: script.as_bytes(),
+        };
         let mut written = Vec::new(alloc);
+        let mut writer = StdWriter {
+            inner: &mut written,
+        };
         let heap = self.heap;
         let played = session(
             heap,
             &mut self.panel,
             &mut self.shelf,
             &mut reader,
-            &mut written,
+            &mut writer,
         );
         if played.is_err() {
             return Err(bad_line(alloc, script));

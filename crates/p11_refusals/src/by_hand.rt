@@ -2,10 +2,10 @@
 use crate::ballast::{Ballast, MOST_TRIES};
 use crate::bench::text_of;
 use crate::case::Places;
-use crate::wrong::{Wrong, bad_line, same};
 use linked_list_allocator::LocalHeap;
-use p11_lines::put_answer;
+use p11_lines::{StdWriter, put_answer};
 use p11_panel::{Answer, Bytes, Command, Config, Fault, Panel, Words, play};
+use p11_test_data::{Wrong, bad_line, same};
 use std::alloc::{AllocError, Allocator, Global};
 
 /// Thousands of words, decoded words, and what becomes of them.
@@ -44,7 +44,7 @@ pub(crate) fn small(alloc: Global) -> Result<Config, Wrong> {
 /// The text of an answer.
 fn text<A: Allocator>(alloc: Global, answer: &Answer<A>) -> Result<String, Wrong> {
     let mut text = Vec::new(alloc);
-    match put_answer(&mut text, answer) {
+    match put_answer(&mut StdWriter { inner: &mut text }, answer) {
         Ok(()) => text_of(alloc, text),
         Err(_) => Err(Wrong::NoMemory),
     }
@@ -147,6 +147,26 @@ pub(crate) fn give_lists(alloc: Global) -> Result<(), Wrong> {
     same(alloc, "a list of commands", ADDED, answers.as_str())?;
     let heap = LocalHeap::new(alloc, 65_536)?;
     refuse_a_list(alloc, Ballast::new(alloc, &heap, 16))
+}
+
+/// Plays lists of 0 to 100 commands, each of which is answered.
+pub(crate) fn give_long_lists(alloc: Global) -> Result<(), Wrong> {
+    let mut commands = Vec::new(alloc);
+    let mut expected = String::new(alloc);
+    for _ in 0..101 {
+        let Some(answers) = played(alloc, alloc, commands.as_slice())? else {
+            return Err(Wrong::NoMemory);
+        };
+        same(
+            alloc,
+            "a long list of commands",
+            expected.as_str(),
+            answers.as_str(),
+        )?;
+        commands.push(Command::Start { address: 0o1000 })?;
+        expected.push_str("OK\n")?;
+    }
+    Ok(())
 }
 
 /// The answers of a list of commands, unless there was no memory.

@@ -1,22 +1,6 @@
-use crate::wrong::{Wrong, bad_line};
 use p11_panel::Config;
+use p11_test_data::{StoredFile, Wrong, bad_line};
 use std::alloc::{AllocError, Global};
-
-/// A file of a store.
-#[derive(Drop)]
-pub(crate) struct StoredFile {
-    pub(crate) name: Vec<u8>,
-    pub(crate) bytes: Vec<u8>,
-}
-
-impl StoredFile {
-    pub(crate) fn copy(&self, alloc: Global) -> Result<StoredFile, AllocError> {
-        Ok(StoredFile {
-            name: Vec::from_slice(alloc, self.name.as_slice())?,
-            bytes: Vec::from_slice(alloc, self.bytes.as_slice())?,
-        })
-    }
-}
 
 /// At how many places something is refused, at least and at most.
 #[derive(Clone, Copy, Drop)]
@@ -144,14 +128,6 @@ impl Places {
             self.least, self.most
         )?;
         Err(Wrong::Line(text))
-    }
-}
-
-/// A decimal number.
-pub(crate) fn number(alloc: Global, text: &str) -> Result<u32, Wrong> {
-    match text.parse() {
-        Ok(number) => Ok(number),
-        Err(_) => Err(bad_line(alloc, text)),
     }
 }
 

@@ -1,10 +1,10 @@
 use crate::calm::play_calmly;
-use crate::case::{Case, Places, Setting, StoredFile, Trial, number};
+use crate::case::{Case, Places, Setting, Trial};
 use crate::full_heap::play_on_full_heap;
 use crate::store_calls::refuse_calls;
 use crate::streams::break_streams;
-use crate::wrong::{Wrong, bad_line};
 use p11_panel::Config;
+use p11_test_data::{StoredFile, Wrong, bad_line, number};
 use std::alloc::Global;
 
 /// A file of cases, read line by line. The first characters of a line say what it is:
@@ -81,7 +81,7 @@ impl Cases {
     }
 
     fn add_file(&mut self, alloc: Global, text: &str) -> Result<(), Wrong> {
-        self.files.push(stored_file(alloc, text)?)?;
+        self.files.push(StoredFile::read(alloc, text)?)?;
         Ok(())
     }
 
@@ -155,25 +155,6 @@ fn try_case(alloc: Global, trial: Trial, setting: &Setting<'_>) -> Result<String
         Trial::Streams => break_streams(alloc, setting, &calm),
         Trial::Store => refuse_calls(alloc, setting, &calm),
     }
-}
-
-/// A file: its name, how many times its bytes are repeated, and the bytes in hexadecimal.
-fn stored_file(alloc: Global, text: &str) -> Result<StoredFile, Wrong> {
-    let mut words = text.split_whitespace();
-    let name = Vec::from_slice(alloc, words.next().unwrap_or("").as_bytes())?;
-    let times = number(alloc, words.next().unwrap_or(""))?;
-    let mut once = Vec::new(alloc);
-    for word in words {
-        let Ok(byte) = u8::from_str_radix(word, 16) else {
-            return Err(bad_line(alloc, word));
-        };
-        once.push(byte)?;
-    }
-    let mut bytes = Vec::new(alloc);
-    for _ in 0..times {
-        bytes.extend_from_slice(once.as_slice())?;
-    }
-    Ok(StoredFile { name, bytes })
 }
 
 /// The sizes of machines.

@@ -3,7 +3,7 @@ use crate::bench::Bench;
 use crate::calm::{Played, Step};
 use crate::case::Setting;
 use crate::stop::{Parts, Stop, part_of, rest_of};
-use crate::wrong::{Wrong, bad_line, same};
+use p11_test_data::{Wrong, bad_line, same};
 use std::alloc::{AllocError, Allocator, Global};
 use std::sync::ledger::Ledger;
 

@@ -38,13 +38,12 @@ mod shelf;
 mod stop;
 mod store_calls;
 mod streams;
-mod wrong;
 
-use crate::by_hand::{give_commands, give_lists, judge_sizes, refuse_a_copy};
+use crate::by_hand::{give_commands, give_lists, give_long_lists, judge_sizes, refuse_a_copy};
 use crate::cases::Cases;
 use crate::scripts::play_scripts;
-use crate::wrong::{Wrong, bad_line};
 use p11_panel::Config;
+use p11_test_data::{Wrong, bad_line};
 use std::alloc::Global;
 use std::process::ExitCode;
 use std::{env, fs, io};
@@ -93,6 +92,7 @@ fn try_by_hand(alloc: Global) -> Result<(), Wrong> {
     judge_sizes(alloc)?;
     give_commands(alloc)?;
     give_lists(alloc)?;
+    give_long_lists(alloc)?;
     refuse_a_copy(alloc)?;
     play_scripts(alloc)
 }

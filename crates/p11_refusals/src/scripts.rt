@@ -3,7 +3,7 @@ use crate::by_hand::small;
 use crate::case::{Case, Setting};
 use crate::pieces::{EndlessReader, PieceReader, PieceWriter};
 use crate::streams::play;
-use crate::wrong::{Wrong, bad_line, same};
+use p11_test_data::{Wrong, bad_line, same};
 use std::alloc::{AllocError, Global};
 
 /// A front, how many spaces stand behind it, an end, and what the script comes to.

@@ -1,8 +1,8 @@
 // A store of which one call may be refused.
 ghost use Rattle.std.specs.Prelude.{◌≡◌, ◌<◌};
 
-use crate::case::StoredFile;
 use p11_panel::{Refusals, Store, StoreError};
+use p11_test_data::StoredFile;
 use std::alloc::{AllocError, Allocator, Global};
 use std::sync::ledger::{Blank, Ledger};
 
@@ -70,7 +70,7 @@ impl<L: Ledger> Store for Shelf<L> {
     ghost use Rattle.std.specs.Prelude.{None};
     ghost use Rattle.p11_panel.specs.Store.{StoreState};
 
-    ghost state = { λ s. record { files = None; refusals = s.refusals } };
+    ghost state = { λ s. record { files = None; refusals = s.refusals; calls = None } };
 
     fn fetch<A: Allocator>(&mut self, alloc: A, name: &[u8]) -> Result<Vec<u8, A>, StoreError> {
         self.calls = self.calls.saturating_add(1);

@@ -1,6 +1,6 @@
 use crate::calm::{Played, play_calmly, same_session};
 use crate::case::Setting;
-use crate::wrong::{Wrong, bad_line, same};
+use p11_test_data::{Wrong, bad_line, same};
 use std::alloc::{AllocError, Global};
 
 /// The answer of a line whose call the store refused.

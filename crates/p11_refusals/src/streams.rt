@@ -6,8 +6,8 @@ use crate::calm::{Played, new_panel};
 use crate::case::Setting;
 use crate::pieces::{PieceReader, PieceWriter};
 use crate::shelf::Shelf;
-use crate::wrong::{Wrong, bad_line, same};
-use p11_panel::{SessionFault, session};
+use p11_panel::{SessionFault, StdReader, StdWriter, session};
+use p11_test_data::{Wrong, bad_line, same};
 use std::alloc::{AllocError, Global};
 use std::io::{Read, Write};
 use std::marker::Brand;
@@ -193,7 +193,17 @@ fn play_on<L: Ledger, R: Read>(
     reader: &mut R,
     writer: &mut PieceWriter,
 ) -> Result<Came, Wrong> {
-    let played = session(alloc, &mut bench.panel, &mut bench.shelf, reader, writer);
+    let mut source = StdReader { inner: reader };
+    let mut sink = StdWriter {
+        inner: &mut *writer,
+    };
+    let played = session(
+        alloc,
+        &mut bench.panel,
+        &mut bench.shelf,
+        &mut source,
+        &mut sink,
+    );
     let end = match played {
         Ok(lines) => format!(in alloc; "{lines} lines answered")?,
         Err(SessionFault::Reading) => String::from_str(alloc, "Reading")?,

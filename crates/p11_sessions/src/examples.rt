@@ -1,8 +1,8 @@
 use crate::outline::{filled, joined};
-use crate::playing::{Play, StoredFile, answers};
+use crate::playing::{Play, answers};
 use crate::transcript::{Transcript, push_line};
-use crate::wrong::Wrong;
 use p11_panel::Config;
+use p11_test_data::{StoredFile, Wrong, bad_line, number, same};
 use std::alloc::Global;
 use std::mem;
 
@@ -78,7 +78,7 @@ impl Examples {
             return self.begin(alloc, name);
         }
         if let Some(file) = line.strip_prefix("@ ") {
-            self.files.push(stored_file(alloc, file)?)?;
+            self.files.push(StoredFile::read(alloc, file)?)?;
             return Ok(());
         }
         if let Some(file) = line.strip_prefix("& ") {
@@ -97,7 +97,7 @@ impl Examples {
         if !self.has_rows && !self.own.is_empty() {
             let name = self.name.clone()?;
             let own = self.own.clone()?;
-            self.play(alloc, name, own.as_str())?;
+            self.play(alloc, name.as_str(), own.as_str())?;
         }
         self.own.clear();
         self.left.clear();
@@ -137,14 +137,14 @@ impl Examples {
         let text = filled(alloc, outline.as_str(), cells.as_slice())?;
         let name = format!(in alloc; "{}: {row}", self.name)?;
         self.has_rows = true;
-        self.play(alloc, name, text.as_str())
+        self.play(alloc, name.as_str(), text.as_str())
     }
 
     /// Takes a file that the example leaves, or more of the last one.
     fn take_left(&mut self, alloc: Global, text: &str) -> Result<(), Wrong> {
-        let file = stored_file(alloc, text)?;
+        let file = StoredFile::read(alloc, text)?;
         match self.left.last_mut() {
-            Some(last) if last.name == file.name => {
+            Some(last) if last.name.as_slice() == file.name.as_slice() => {
                 last.bytes.extend_from_slice(file.bytes.as_slice())?;
             }
             _ => self.left.push(file)?,
@@ -153,19 +153,12 @@ impl Examples {
     }
 
     /// Plays an example, and compares what it answers.
-    fn play(&mut self, alloc: Global, name: String, text: &str) -> Result<(), Wrong> {
+    fn play(&mut self, alloc: Global, name: &str, text: &str) -> Result<(), Wrong> {
         for flushes in [false, true] {
             let transcript = Transcript::of(alloc, text, flushes)?;
             for kept in KEPT {
                 let answered = self.answered(alloc, transcript.script(), kept)?;
-                if answered.as_str() != transcript.answers() {
-                    let expected = String::from_str(alloc, transcript.answers())?;
-                    return Err(Wrong::Answers {
-                        name,
-                        expected,
-                        answered,
-                    });
-                }
+                same(alloc, name, transcript.answers(), answered.as_str())?;
             }
         }
         self.count = self.count.saturating_add(1);
@@ -175,7 +168,7 @@ impl Examples {
     /// What a session over this script answers, on a new machine that keeps so many decoded words.
     fn answered(&self, alloc: Global, script: &str, kept: u32) -> Result<String, Wrong> {
         let Ok(config) = Config::new(self.kwords, kept) else {
-            return Err(Wrong::Line(String::from_str(alloc, "! of a size that no machine has")?));
+            return Err(bad_line(alloc, "! of a size that no machine has"));
         };
         let play = Play {
             config,
@@ -193,32 +186,5 @@ impl Examples {
             push_line(&mut text, "and leaves other files")?;
         }
         Ok(text)
-    }
-}
-
-/// A file: its name, how many times its bytes are repeated, and the bytes in hexadecimal.
-fn stored_file(alloc: Global, text: &str) -> Result<StoredFile, Wrong> {
-    let mut words = text.split_whitespace();
-    let name = String::from_str(alloc, words.next().unwrap_or(""))?;
-    let times = number(alloc, words.next().unwrap_or(""))?;
-    let mut once = Vec::new(alloc);
-    for word in words {
-        let Ok(byte) = u8::from_str_radix(word, 16) else {
-            return Err(Wrong::Line(String::from_str(alloc, word)?));
-        };
-        once.push(byte)?;
-    }
-    let mut bytes = Vec::new(alloc);
-    for _ in 0..times {
-        bytes.extend_from_slice(once.as_slice())?;
-    }
-    Ok(StoredFile { name, bytes })
-}
-
-/// A decimal number.
-fn number(alloc: Global, text: &str) -> Result<u32, Wrong> {
-    match text.parse() {
-        Ok(number) => Ok(number),
-        Err(_) => Err(Wrong::Line(String::from_str(alloc, text)?)),
     }
 }

@@ -12,10 +12,9 @@ mod examples;
 mod outline;
 mod playing;
 mod transcript;
-mod wrong;
 
 use crate::examples::Examples;
-use crate::wrong::Wrong;
+use p11_test_data::Wrong;
 use std::process::ExitCode;
 use std::{env, fs, io};
 

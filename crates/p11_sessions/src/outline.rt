@@ -1,5 +1,5 @@
 use crate::transcript::push_line;
-use crate::wrong::Wrong;
+use p11_test_data::{Wrong, bad_line};
 use std::alloc::Global;
 
 /// An example's lines with these cells in the place of `$a`, `$b` and so on.
@@ -12,7 +12,7 @@ pub(crate) fn filled(alloc: Global, text: &str, cells: &[&str]) -> Result<String
     for part in parts {
         let mut letters = part.chars();
         let Some(cell) = letters.next().and_then(|letter| cell(cells, letter)) else {
-            return Err(Wrong::Line(String::from_str(alloc, part)?));
+            return Err(bad_line(alloc, part));
         };
         filled.push_str(cell)?;
         filled.push_str(letters.as_str())?;

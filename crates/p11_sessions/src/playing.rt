@@ -1,16 +1,10 @@
 ghost use Rattle.std.specs.Prelude.{◌≡◌, ◌<◌};
 
-use p11_panel::{Config, MemoryStore, NoMemory, Panel, Store, session};
+use p11_panel::{Config, MemoryStore, NoMemory, Panel, StdReader, StdWriter, Store, session};
+use p11_test_data::StoredFile;
 use std::alloc::Global;
 use std::marker::Brand;
 use std::sync::ledger::{Blank, Ledger};
-
-/// A file of the store.
-#[derive(Drop)]
-pub(crate) struct StoredFile {
-    pub(crate) name: String,
-    pub(crate) bytes: Vec<u8>,
-}
 
 /// What is played: a machine of these sizes, a store that has these files, and the script of a session.
 #[derive(Drop)]
@@ -41,15 +35,20 @@ fn answers_counted<L: Ledger>(
     let mut store = MemoryStore::<L>::new(alloc, blank);
     for file in play.files {
         if store
-            .put(file.name.as_bytes(), file.bytes.as_slice())
+            .put(file.name.as_slice(), file.bytes.as_slice())
             .is_err()
         {
             return Err(NoMemory);
         }
     }
-    let mut reader = play.script.as_bytes();
+    let mut reader = StdReader {
+        inner: play.script.as_bytes(),
+    };
     let mut written = Vec::new(alloc);
-    if session(alloc, &mut panel, &mut store, &mut reader, &mut written).is_err() {
+    let mut writer = StdWriter {
+        inner: &mut written,
+    };
+    if session(alloc, &mut panel, &mut store, &mut reader, &mut writer).is_err() {
         return Err(NoMemory);
     }
     let mut has_all = true;
@@ -61,7 +60,7 @@ fn answers_counted<L: Ledger>(
 
 /// Whether the store has this file.
 fn has<L: Ledger>(alloc: Global, store: &mut MemoryStore<L>, file: &StoredFile) -> bool {
-    match store.fetch(alloc, file.name.as_bytes()) {
+    match store.fetch(alloc, file.name.as_slice()) {
         Ok(bytes) => bytes.as_slice() == file.bytes.as_slice(),
         Err(_) => false,
     }

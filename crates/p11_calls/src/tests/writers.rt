@@ -1,5 +1,5 @@
 // How many writes a text is. The tests of the panel have writers that stop.
-use p11_lines::{Answer, Words, put_answer};
+use p11_lines::{Answer, StdWriter, Words, put_answer};
 use std::io::{self, Write};
 use std::test::Fail;
 
@@ -35,7 +35,8 @@ fn a_text_of_4096_bytes_is_one_write(rt: HostRuntime) -> Result<(), Fail> {
             taken: Vec::new(rt.alloc()),
             writes: 0,
         };
-        assert_eq!(rt; put_answer(&mut writer, &answer), Ok(()));
+        let mut sink = StdWriter { inner: &mut writer };
+        assert_eq!(rt; put_answer(&mut sink, &answer), Ok(()));
         assert_eq!(rt; (writer.taken.len(), writer.writes), (19 * words, writes));
         assert!(rt; writer.taken.as_slice().ends_with(b" 000007\n"));
     }

@@ -1,15 +1,17 @@
+ghost use Rattle.std.specs.Prelude.{◌≡◌, IsOk};
+
 use std::alloc::{AllocError, AllocFailed, Global};
 use std::fmt;
 use std::fmt::{Display, Formatter, Write};
 
-/// Why a file's cases are not what they are to be.
+/// Why what a file of data says is not what comes.
 #[derive(Debug, Drop)]
-pub(crate) enum Wrong {
+pub enum Wrong {
     /// There is no memory for the program itself.
     NoMemory,
     /// What can't be read or played as it is written.
     Line(String),
-    /// A place of a case, what is to come there, and what comes.
+    /// A place in the data, what is to come there, and what comes.
     Differs {
         place: String,
         expected: String,
@@ -44,7 +46,7 @@ impl Display for Wrong {
 }
 
 /// A fault in what is written.
-pub(crate) fn bad_line(alloc: Global, line: &str) -> Wrong {
+pub fn bad_line(alloc: Global, line: &str) -> Wrong {
     match String::from_str(alloc, line) {
         Ok(line) => Wrong::Line(line),
         Err(_) => Wrong::NoMemory,
@@ -52,7 +54,9 @@ pub(crate) fn bad_line(alloc: Global, line: &str) -> Wrong {
 }
 
 /// Compares a text with what it is to be.
-pub(crate) fn same(alloc: Global, place: &str, expected: &str, found: &str) -> Result<(), Wrong> {
+pub fn same(alloc: Global, place: &str, expected: &str, found: &str) -> Result<(), Wrong>
+    ensures { IsOk result → expected.now ≡ found.now }
+{
     if expected == found {
         return Ok(());
     }
