@@ -1,5 +1,11 @@
 // How the program ends.
-use crate::desk::Torn;
+
+/// Which writer failed, or took nothing.
+#[derive(Clone, Copy, Debug, PartialEq, Eq)]
+pub(crate) enum Torn {
+    Screen,
+    Record,
+}
 
 /// Why the program ends.
 #[derive(Debug, Drop)]

@@ -6,30 +6,14 @@
 
 ghost use Rattle.std.specs.Prelude.{◌≡◌, ◌<◌};
 
-mod console;
-mod desk;
-mod dialogue;
 mod ending;
-mod help;
-mod keyboard;
-mod obey;
-mod prompt;
-mod reasons;
-mod running;
 mod settings;
 mod system;
-mod unsaved;
-mod verb;
-mod whole;
-mod wording;
 
-use crate::console::Console;
-use crate::desk::{Desk, Torn};
-use crate::dialogue::Seat;
-use crate::ending::{Cause, ending};
-use crate::keyboard::Input;
+use crate::ending::{Cause, Torn, ending};
 use crate::settings::{Launch, settings};
 use crate::system::{RecordFile, SystemKeyboard, SystemReasons};
+use p11_dialogue::{Person, Station, Wish, converse};
 use p11_files::FileStore;
 use p11_panel::Panel;
 use std::fs::OpenOptions;
@@ -103,25 +87,31 @@ fn hold<L: Ledger>(rt: &HostRuntime, launch: &Launch<'_>, blank: Blank) -> Resul
     let Ok(panel) = Panel::new(rt.alloc(), launch.config) else {
         return Err(Cause::NoMemory);
     };
-    let record = record(rt, launch)?;
-    let files = FileStore::<L>::new(rt, blank);
-    let desk = Desk::new(panel, files, io::writer(rt), record);
-    let mut seat = Seat::new(
-        rt.alloc(),
-        desk,
-        Input::new(SystemKeyboard::new(rt)),
-        Console::new(io::writer(rt)),
-        SystemReasons::new(rt),
-        launch.slice,
-    );
-    seat.hold(launch.script.map(|name| name.as_bytes()), launch.is_talk);
-    if let Some(torn) = seat.desk().torn() {
-        return Ok(Cause::Torn(torn));
+    let journal = record(rt, launch)?;
+    let station = Station {
+        panel,
+        store: FileStore::<L>::new(rt, blank),
+        screen: io::writer(rt),
+        journal,
+    };
+    let person = Person {
+        keyboard: SystemKeyboard::new(rt),
+        console: io::writer(rt),
+        files: SystemReasons::new(rt),
+    };
+    let wish = Wish {
+        script: launch.script.map(|name| name.as_bytes()),
+        is_talk: launch.is_talk,
+        slice: launch.slice,
+    };
+    let parting = converse(rt.alloc(), station, person, &wish);
+    if parting.is_journal_torn {
+        return Ok(Cause::Torn(Torn::Record));
     }
-    if seat.console().is_torn() {
+    if parting.is_screen_torn || parting.is_console_torn {
         return Ok(Cause::Torn(Torn::Screen));
     }
-    if seat.input().has_failed() {
+    if parting.has_read_fault {
         return Ok(Cause::Reading);
     }
     Ok(Cause::Done)

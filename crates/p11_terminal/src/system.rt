@@ -1,6 +1,5 @@
 // What the system gives: its keyboard, the reasons of its faults with files, and the record's file.
-use crate::keyboard::Keyboard;
-use crate::reasons::Explain;
+use p11_dialogue::{Explain, Keyboard};
 use std::fs::File;
 use std::io::{ErrorKind, IsTerminal, Read, Stdin, Write};
 use std::time::Duration;

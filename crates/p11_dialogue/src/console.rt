@@ -1,7 +1,7 @@
 // What the program says to the person at the console.
 use crate::whole::write_whole;
 use itoa::Buffer;
-use p11_lines::put_answer;
+use p11_lines::{StdWriter, put_answer};
 use p11_panel::Answer;
 use std::alloc::Allocator;
 use std::io::Write;
@@ -9,14 +9,14 @@ use std::io::Write;
 /// The writer of all that is said, but for what the machine types. Once it has failed nothing more is said.
 #[derive(Drop)]
 pub(crate) struct Console<W> {
-    writer: W,
+    writer: StdWriter<W>,
     is_torn: bool,
 }
 
 impl<W: Write> Console<W> {
     pub(crate) fn new(writer: W) -> Self {
         Console {
-            writer,
+            writer: StdWriter { inner: writer },
             is_torn: false,
         }
     }
@@ -28,7 +28,7 @@ impl<W: Write> Console<W> {
 
     /// Says bytes.
     pub(crate) fn put(&mut self, bytes: &[u8]) {
-        if !self.is_torn && !write_whole(&mut self.writer, bytes) {
+        if !self.is_torn && !write_whole(&mut self.writer.inner, bytes) {
             self.is_torn = true;
         }
     }

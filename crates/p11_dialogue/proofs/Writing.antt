@@ -5,7 +5,7 @@ use Rattle.std.proofs.lemmas.List.{nil_from_length, take_all, length-drop}
 use Rattle.std.specs.Io.KnownBytes.{Appends, Keeps}
 use Rattle.std.specs.List.{flat_map}
 use Rattle.std.proofs.KnownBytes.{Appends-nil, Appends-trans, Appends-kept}
-use Rattle.p11_terminal.specs.Deeds.{Fronts}
+use Rattle.p11_dialogue.specs.Deeds.{Fronts}
 
 pub Fronts_none : (a : Option (List ℕ)) (text : List ℕ) → Fronts a a text
 Fronts_none a text = record { front = []; rest = text; written = Appends-nil a; split = refl }

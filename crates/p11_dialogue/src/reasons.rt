@@ -7,7 +7,7 @@ use p11_tape::{TapeFault, TapeFaultKind};
 use std::io::Write;
 
 /// Who knows why a file of the store can't be read or written.
-pub(crate) trait Explain {
+pub trait Explain {
     /// Why the bytes under a name can't be had.
     fn why_not_read(&self, name: &[u8]) -> &'static str;
 

@@ -1,8 +1,8 @@
 // The machine with its store, the screen on which it types, and the record of what was done.
-ghost use Rattle.std.specs.Prelude.{◌≡◌, false, true, IfSome};
+ghost use Rattle.std.specs.Prelude.{◌≡◌, false, true, ◌||◌, List, IfSome};
 ghost use Rattle.std.specs.Fmt.{decimal};
 ghost use Rattle.std.specs.Io.KnownBytes.{Appends};
-ghost use Rattle.p11_terminal.specs.Deeds.{Fronts, ended, recorded, run_recorded, typed_in};
+ghost use Rattle.p11_dialogue.specs.Deeds.{Deed, Dialogue, Fronts, ended, recorded, run_recorded, scene, typed_in};
 
 use crate::obey::obey;
 use crate::whole::write_whole;
@@ -12,56 +12,132 @@ use p11_panel::{Answer, Bytes, Command, Devices, Fault, Line, Panel, Store, Stor
 use p11_tape::TapeFault;
 use std::alloc::Allocator;
 use std::io::Write;
+use std::marker::{Brand, Model, PhantomData};
 
-/// Which writer failed, or took nothing.
-#[derive(Clone, Copy, Debug, PartialEq, Eq)]
-pub(crate) enum Torn {
-    Screen,
-    Record,
+/// How a dialogue begins, which contracts alone know.
+pub trait Opening {
+    ghost use Rattle.p11_dialogue.specs.Deeds.{Scene};
+
+    ghost opening: { Scene };
+}
+
+impl Opening for Brand {
+    ghost use Rattle.std.specs.Prelude.{None};
+    ghost use Rattle.p11_cpu.specs.Operator.{new_machine};
+    ghost use Rattle.p11_dialogue.specs.Deeds.{scene};
+
+    ghost opening = { scene (new_machine 4) (record { files = None; refusals = 0; calls = None }) None None };
 }
 
 /// A machine with its store of files, the writer of what it types, and the writer of the record.
 ///
-/// Once a writer has failed nothing more is done.
-pub(crate) struct Desk<A: Allocator, S, T, L> {
+/// Once a writer has failed nothing more is done. Whoever holds it, all that was done since the opening is a list of
+/// deeds, and the screen and the record are theirs: it is the invariant.
+pub(crate) struct Desk<A: Allocator, S: Store, T: Write, L: Write, O: Opening> {
     panel: Panel<A>,
     store: S,
     screen: T,
     journal: L,
-    torn: Option<Torn>,
+    is_screen_torn: bool,
+    is_journal_torn: bool,
     /// What was wrong with the last bytes that were no tape.
     wrong: Option<TapeFault>,
+    of: PhantomData<O>,
 }
 
-impl<A: Allocator, S: Drop, T: Drop, L: Drop> Drop for Desk<A, S, T, L> {
-    fn drop(self) {
-        let Desk {
+impl<A: Allocator, S: Store, T: Write, L: Write, O: Opening> Model for Desk<A, S, T, L, O> {
+    ghost use Rattle.std.specs.Prelude.{List};
+    ghost use Rattle.p11_dialogue.specs.Deeds.{Deed, Dialogue, Tears, scene};
+
+    ghost Value = { Tears };
+
+    ghost view = { λ d. record { screen = d.is_screen_torn; journal = d.is_journal_torn } };
+
+    ghost invariant = { λ d. (deeds : List (Deed A)) × Dialogue deeds d.is_screen_torn d.is_journal_torn O.opening
+        (scene d.panel (S.state d.store) (T.contents d.screen) (L.contents d.journal)) };
+}
+
+/// What a dialogue is held over: a machine with its store of files, the writer of what it types, and that of the record.
+pub struct Station<A: Allocator, S, T, L> {
+    pub panel: Panel<A>,
+    pub store: S,
+    pub screen: T,
+    pub journal: L,
+}
+
+/// What is left of a dialogue when it is over.
+pub struct Parting<A: Allocator, S, T, L> {
+    pub station: Station<A, S, T, L>,
+    /// Whether a write of what the machine typed failed, or took nothing.
+    pub is_screen_torn: bool,
+    /// Whether a write of the record failed, or took nothing.
+    pub is_journal_torn: bool,
+    /// Whether a write of what the console says failed, or took nothing.
+    pub is_console_torn: bool,
+    /// Whether a read of the keyboard failed.
+    pub has_read_fault: bool,
+}
+
+impl<A: Allocator + Copy, S: Store, T: Write, L: Write, O: Opening> Desk<A, S, T, L, O> {
+    /// With nothing typed and nothing recorded.
+    pub(crate) fn new(station: Station<A, S, T, L>) -> Self
+        requires { scene station.panel (S.state station.store) (T.contents station.screen)
+            (L.contents station.journal) ≡ O.opening }
+    {
+        let Station {
             panel,
             store,
             screen,
             journal,
-            torn,
-            wrong,
-        } = self;
-    }
-}
-
-impl<A: Allocator + Copy, S: Store, T: Write, L: Write> Desk<A, S, T, L> {
-    /// Over a machine, with nothing typed and nothing recorded.
-    pub(crate) fn new(panel: Panel<A>, store: S, screen: T, journal: L) -> Self {
+        } = station;
         Desk {
             panel,
             store,
             screen,
             journal,
-            torn: None,
+            is_screen_torn: false,
+            is_journal_torn: false,
             wrong: None,
+            of: PhantomData,
         }
     }
 
-    /// Which writer failed.
-    pub(crate) fn torn(&self) -> Option<Torn> {
-        self.torn
+    /// What is left of it, beside what the console's writer and the keyboard came to.
+    pub(crate) fn part(self, is_console_torn: bool, has_read_fault: bool) -> Parting<A, S, T, L>
+        ensures { (deeds : List (Deed A)) × Dialogue deeds result.is_screen_torn result.is_journal_torn O.opening
+            (scene result.station.panel (S.state result.station.store) (T.contents result.station.screen)
+            (L.contents result.station.journal)) }
+    {
+        let Desk {
+            panel,
+            store,
+            screen,
+            journal,
+            is_screen_torn,
+            is_journal_torn,
+            wrong: _,
+            of: _,
+        } = self;
+        let station = Station {
+            panel,
+            store,
+            screen,
+            journal,
+        };
+        Parting {
+            station,
+            is_screen_torn,
+            is_journal_torn,
+            is_console_torn,
+            has_read_fault,
+        }
+    }
+
+    /// Whether a writer failed.
+    pub(crate) fn is_torn(&self) -> bool
+        ensures { result ≡ (self.now.screen || self.now.journal) }
+    {
+        self.is_screen_torn || self.is_journal_torn
     }
 
     /// What was wrong with the last bytes that were no tape.
@@ -72,7 +148,7 @@ impl<A: Allocator + Copy, S: Store, T: Write, L: Write> Desk<A, S, T, L> {
     /// Does a line, shows what was typed, and records the line. `None`: a writer had failed before, and nothing is
     /// done.
     pub(crate) fn attempt(&mut self, alloc: A, line: Line<A>) -> Option<Answer<A>> {
-        if self.torn.is_some() {
+        if self.is_torn() {
             return None;
         }
         let Some(text) = record_line(alloc, &line) else {
@@ -86,18 +162,21 @@ impl<A: Allocator + Copy, S: Store, T: Write, L: Write> Desk<A, S, T, L> {
             line,
             &mut self.wrong,
         );
-        if !show(&mut self.screen, &answer) {
-            self.torn = Some(Torn::Screen);
-        }
-        if !keep(&mut self.journal, text.as_slice(), &answer) {
-            self.torn = Some(Torn::Record);
-        }
+        self.is_screen_torn = !show(&mut self.screen, &answer);
+        self.is_journal_torn = !keep(&mut self.journal, text.as_slice(), &answer);
         Some(answer)
     }
 
-    /// The bytes of a script.
-    pub(crate) fn script(&mut self, alloc: A, name: &[u8]) -> Result<Vec<u8, A>, StoreError> {
-        self.store.fetch(alloc, name)
+    /// The bytes of a script. `None`: a writer had failed before, and nothing is done.
+    pub(crate) fn script(
+        &mut self,
+        alloc: A,
+        name: &[u8],
+    ) -> Option<Result<Vec<u8, A>, StoreError>> {
+        if self.is_torn() {
+            return None;
+        }
+        Some(self.store.fetch(alloc, name))
     }
 
     /// What shows of the devices. Nothing changes.

@@ -1,6 +1,6 @@
 // Runs of the machine in slices, between which the keyboard is asked.
 use crate::console::Console;
-use crate::desk::Desk;
+use crate::desk::{Desk, Opening};
 use crate::keyboard::{ESCAPE, Input, Keyboard, Press, Waiting};
 use p11_panel::{Answer, Bytes, Fault, Line, StopReason, Store};
 use std::alloc::Allocator;
@@ -118,9 +118,9 @@ fn take_line<K: Keyboard>(input: &mut Input<K>, waiting: &mut Waiting) -> Look {
 }
 
 /// Presses as many of the keys that wait as there is room for.
-fn press<A: Allocator + Copy, S: Store, T: Write, L: Write>(
+fn press<A: Allocator + Copy, S: Store, T: Write, L: Write, O: Opening>(
     alloc: A,
-    desk: &mut Desk<A, S, T, L>,
+    desk: &mut Desk<A, S, T, L, O>,
     waiting: &mut Waiting,
 ) {
     if waiting.is_empty() {
@@ -158,9 +158,9 @@ fn next_turns(course: &Course, made: u64) -> u32 {
 }
 
 /// Makes the next slice.
-fn make_slice<A: Allocator + Copy, S: Store, T: Write, L: Write>(
+fn make_slice<A: Allocator + Copy, S: Store, T: Write, L: Write, O: Opening>(
     alloc: A,
-    desk: &mut Desk<A, S, T, L>,
+    desk: &mut Desk<A, S, T, L, O>,
     course: &Course,
     run: &mut Run,
 ) -> Slice {
@@ -206,9 +206,17 @@ fn judge(course: &Course, run: &Run, reason: StopReason, has_typed: bool) -> Sli
 }
 
 /// Makes a run: in slices, between which keys go from the keyboard to the machine.
-pub(crate) fn make_run<A: Allocator + Copy, S: Store, T: Write, L: Write, K: Keyboard, W: Write>(
+pub(crate) fn make_run<
+    A: Allocator + Copy,
+    S: Store,
+    T: Write,
+    L: Write,
+    O: Opening,
+    K: Keyboard,
+    W: Write,
+>(
     alloc: A,
-    desk: &mut Desk<A, S, T, L>,
+    desk: &mut Desk<A, S, T, L, O>,
     input: &mut Input<K>,
     console: &mut Console<W>,
     waiting: &mut Waiting,

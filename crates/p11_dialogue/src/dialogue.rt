@@ -1,6 +1,9 @@
 // The dialogue at the console.
+ghost use Rattle.std.specs.Prelude.{List};
+ghost use Rattle.p11_dialogue.specs.Deeds.{Deed, Dialogue, scene};
+
 use crate::console::Console;
-use crate::desk::Desk;
+use crate::desk::{Desk, Opening, Parting};
 use crate::help::{say_all, say_one};
 use crate::keyboard::{Input, Keyboard, Waiting};
 use crate::prompt::{Entry, LineTyped, read_line};
@@ -28,9 +31,9 @@ enum Next {
 }
 
 /// The console, and all that stands on it.
-pub(crate) struct Seat<A: Allocator, S, T, L, K, W, E> {
+pub(crate) struct Seat<A: Allocator, S: Store, T: Write, L: Write, O: Opening, K, W, E> {
     alloc: A,
-    desk: Desk<A, S, T, L>,
+    desk: Desk<A, S, T, L, O>,
     input: Input<K>,
     console: Console<W>,
     files: E,
@@ -43,36 +46,19 @@ pub(crate) struct Seat<A: Allocator, S, T, L, K, W, E> {
     is_told: bool,
 }
 
-impl<A: Allocator, S: Drop, T: Drop, L: Drop, K: Drop, W: Drop, E: Drop> Drop
-    for Seat<A, S, T, L, K, W, E> {
-    fn drop(self) {
-        let Seat {
-            alloc,
-            desk,
-            input,
-            console,
-            files,
-            waiting,
-            saved,
-            slice,
-            is_warned,
-            is_told,
-        } = self;
-    }
-}
-
-impl<A: Allocator + Copy, S: Store, T: Write, L: Write, K: Keyboard, W: Write, E: Explain> Seat<
-    A,
-    S,
-    T,
-    L,
-    K,
-    W,
-    E,
-> {
+impl<
+    A: Allocator + Copy,
+    S: Store,
+    T: Write,
+    L: Write,
+    O: Opening,
+    K: Keyboard + Drop,
+    W: Write + Drop,
+    E: Explain + Drop,
+> Seat<A, S, T, L, O, K, W, E> {
     pub(crate) fn new(
         alloc: A,
-        desk: Desk<A, S, T, L>,
+        desk: Desk<A, S, T, L, O>,
         input: Input<K>,
         console: Console<W>,
         files: E,
@@ -92,16 +78,25 @@ impl<A: Allocator + Copy, S: Store, T: Write, L: Write, K: Keyboard, W: Write, E
         }
     }
 
-    pub(crate) fn desk(&self) -> &Desk<A, S, T, L> {
-        &self.desk
-    }
-
-    pub(crate) fn console(&self) -> &Console<W> {
-        &self.console
-    }
-
-    pub(crate) fn input(&self) -> &Input<K> {
-        &self.input
+    /// Leaves it: what is left.
+    pub(crate) fn part(self) -> Parting<A, S, T, L>
+        ensures { (deeds : List (Deed A)) × Dialogue deeds result.is_screen_torn result.is_journal_torn O.opening
+            (scene result.station.panel (S.state result.station.store) (T.contents result.station.screen)
+            (L.contents result.station.journal)) }
+    {
+        let Seat {
+            alloc: _,
+            desk,
+            input,
+            console,
+            files: _,
+            waiting: _,
+            saved: _,
+            slice: _,
+            is_warned: _,
+            is_told: _,
+        } = self;
+        desk.part(console.is_torn(), input.has_failed())
     }
 
     /// Holds the dialogue to its end.
@@ -130,7 +125,7 @@ impl<A: Allocator + Copy, S: Store, T: Write, L: Write, K: Keyboard, W: Write, E
 
     /// Whether no writer has failed.
     fn can_go_on(&self) -> bool {
-        self.desk.torn().is_none() && !self.console.is_torn()
+        !self.desk.is_torn() && !self.console.is_torn()
     }
 
     fn refuse_long(&mut self) -> Next {
@@ -339,12 +334,13 @@ impl<A: Allocator + Copy, S: Store, T: Write, L: Write, K: Keyboard, W: Write, E
     /// Does the lines of a script.
     fn do_script(&mut self, name: &[u8]) {
         match self.desk.script(self.alloc, name) {
-            Err(error) => {
+            None => {}
+            Some(Err(error)) => {
                 let answer = Answer::<A>::Refused(Fault::StoreFault);
                 self.console.answer(&answer);
                 say_no_script(&mut self.console, &self.files, name, error);
             }
-            Ok(text) => self.do_lines(text.as_slice()),
+            Some(Ok(text)) => self.do_lines(text.as_slice()),
         }
     }
 

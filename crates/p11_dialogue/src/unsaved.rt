@@ -1,5 +1,5 @@
 // Packs whose last state no file has.
-use crate::desk::Desk;
+use crate::desk::{Desk, Opening};
 use p11_panel::{Bytes, Devices, Line, Store};
 use std::alloc::Allocator;
 use std::io::Write;
@@ -35,10 +35,10 @@ impl<A: Allocator + Copy> SavedPacks<A> {
     }
 
     /// A drive was saved: keeps what it holds. Where there is no memory for that, the pack counts as not saved.
-    pub(crate) fn note<S: Store, T: Write, L: Write>(
+    pub(crate) fn note<S: Store, T: Write, L: Write, O: Opening>(
         &mut self,
         alloc: A,
-        desk: &mut Desk<A, S, T, L>,
+        desk: &mut Desk<A, S, T, L, O>,
         drive: u32,
     ) {
         self.forget(drive);
@@ -62,10 +62,10 @@ impl<A: Allocator + Copy> SavedPacks<A> {
     }
 
     /// Whether the pack on a drive, of which sectors were written since it was mounted, is as it was saved.
-    fn has_saved<S: Store, T: Write, L: Write>(
+    fn has_saved<S: Store, T: Write, L: Write, O: Opening>(
         &self,
         alloc: A,
-        desk: &mut Desk<A, S, T, L>,
+        desk: &mut Desk<A, S, T, L, O>,
         drive: u32,
     ) -> bool {
         for saved in self.packs.as_slice() {
@@ -80,10 +80,10 @@ impl<A: Allocator + Copy> SavedPacks<A> {
     }
 
     /// Whether the pack on a drive has sectors that no file has.
-    pub(crate) fn is_unsaved<S: Store, T: Write, L: Write>(
+    pub(crate) fn is_unsaved<S: Store, T: Write, L: Write, O: Opening>(
         &self,
         alloc: A,
-        desk: &mut Desk<A, S, T, L>,
+        desk: &mut Desk<A, S, T, L, O>,
         devices: &Devices,
         drive: u32,
     ) -> bool {

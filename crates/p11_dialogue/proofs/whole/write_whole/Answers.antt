@@ -1,6 +1,6 @@
 use Rattle.std.proofs.Common.{arith}
-use Rattle.p11_terminal.proofs.Writing.{Left_slice}
-use Rattle.p11_terminal.proofs.whole.write_whole.Goals as goal
+use Rattle.p11_dialogue.proofs.Writing.{Left_slice}
+use Rattle.p11_dialogue.proofs.whole.write_whole.Goals as goal
 
 pub loop-rest-preserved : goal.loop-rest-preserved
 loop-rest-preserved g c =

@@ -1,7 +1,7 @@
 // Bytes that are written whole, or not.
 ghost use Rattle.std.specs.Prelude.{◌≡◌, true, false};
 ghost use Rattle.std.specs.Io.KnownBytes.{Appends};
-ghost use Rattle.p11_terminal.specs.Deeds.{Fronts};
+ghost use Rattle.p11_dialogue.specs.Deeds.{Fronts};
 
 use std::io::Write;
 

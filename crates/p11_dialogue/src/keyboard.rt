@@ -12,7 +12,7 @@ const READ_BYTES: usize = 4096;
 const MOST_WAITING: usize = 4096;
 
 /// A reader of keys. At a terminal a read of nothing says that nothing is pressed; elsewhere it is the end.
-pub(crate) trait Keyboard: Read {
+pub trait Keyboard: Read {
     /// Whether a person sits at it.
     fn is_terminal(&self) -> bool;
 

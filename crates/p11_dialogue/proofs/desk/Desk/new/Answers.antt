@@ -1,0 +1,5 @@
+use Rattle.p11_dialogue.proofs.DeskLemmas.{begun}
+use Rattle.p11_dialogue.proofs.desk.Desk.new.Goals as goal
+
+pub invariant_of-result : goal.invariant_of-result
+invariant_of-result g c = begun _ _ c.requires

@@ -1,0 +1,25 @@
+//! A dialogue at the console of a PDP-11/40, and at its terminal.
+//!
+//! It reads keys or lines, does what they say, shows what the machine types, and records what was done as a script that
+//! gives the same again.
+#![tactic(auto)]
+
+mod console;
+mod desk;
+mod dialogue;
+mod help;
+mod keyboard;
+mod obey;
+mod prompt;
+mod reasons;
+mod running;
+mod unsaved;
+mod verb;
+mod whole;
+mod whole_dialogue;
+mod wording;
+
+pub use desk::{Parting, Station};
+pub use keyboard::Keyboard;
+pub use reasons::Explain;
+pub use whole_dialogue::{Person, Wish, converse};

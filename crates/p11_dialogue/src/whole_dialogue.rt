@@ -1,0 +1,97 @@
+// A whole dialogue.
+ghost use Rattle.std.specs.Prelude.{◌≡◌, List};
+ghost use Rattle.p11_dialogue.specs.Deeds.{Deed, Dialogue, scene};
+
+use crate::console::Console;
+use crate::desk::{Desk, Opening, Parting, Station};
+use crate::dialogue::Seat;
+use crate::keyboard::{Input, Keyboard};
+use crate::reasons::Explain;
+use p11_panel::Store;
+use std::alloc::Allocator;
+use std::io::Write;
+use std::marker::Brand;
+
+/// Who holds the dialogue: a keyboard, what the console says, and who knows why files can't be had.
+pub struct Person<K, W, E> {
+    pub keyboard: K,
+    pub console: W,
+    pub files: E,
+}
+
+/// What is asked for.
+#[derive(Clone, Copy, Debug, PartialEq, Eq)]
+pub struct Wish<'a> {
+    /// The name of a file whose lines are done first.
+    pub script: Option<&'a [u8]>,
+    /// Whether the machine's terminal comes before the console.
+    pub is_talk: bool,
+    /// Turns between two looks at the keyboard, at most.
+    pub slice: u32,
+}
+
+/// Holds a dialogue to its end. All that it does is a list of deeds: lines of the console's language that were tried,
+/// and files of scripts that the store was asked for. The screen has the bytes that the machine typed, in order; the
+/// record the lines that were done, with the turns that were really made. Of a writer that failed or took nothing the
+/// bytes are a front of these, and nothing was done after it.
+pub fn converse<
+    A: Allocator + Copy,
+    S: Store,
+    T: Write,
+    L: Write,
+    K: Keyboard + Drop,
+    W: Write + Drop,
+    E: Explain + Drop,
+>(
+    alloc: A,
+    station: Station<A, S, T, L>,
+    person: Person<K, W, E>,
+    wish: &Wish<'_>,
+) -> Parting<A, S, T, L>
+    ensures { (deeds : List (Deed A)) × Dialogue deeds result.is_screen_torn result.is_journal_torn
+        (scene station.panel (S.state station.store) (T.contents station.screen) (L.contents station.journal))
+        (scene result.station.panel (S.state result.station.store) (T.contents result.station.screen)
+        (L.contents result.station.journal)) }
+{
+    converse_from::<A, S, T, L, Brand, K, W, E>(alloc, station, person, wish)
+}
+
+/// The same, from an opening that has a name.
+fn converse_from<
+    A: Allocator + Copy,
+    S: Store,
+    T: Write,
+    L: Write,
+    O: Opening,
+    K: Keyboard + Drop,
+    W: Write + Drop,
+    E: Explain + Drop,
+>(
+    alloc: A,
+    station: Station<A, S, T, L>,
+    person: Person<K, W, E>,
+    wish: &Wish<'_>,
+) -> Parting<A, S, T, L>
+    requires { scene station.panel (S.state station.store) (T.contents station.screen) (L.contents station.journal)
+        ≡ O.opening }
+    ensures { (deeds : List (Deed A)) × Dialogue deeds result.is_screen_torn result.is_journal_torn O.opening
+        (scene result.station.panel (S.state result.station.store) (T.contents result.station.screen)
+        (L.contents result.station.journal)) }
+{
+    let Person {
+        keyboard,
+        console,
+        files,
+    } = person;
+    let desk: Desk<A, S, T, L, O> = Desk::new(station);
+    let mut seat = Seat::new(
+        alloc,
+        desk,
+        Input::new(keyboard),
+        Console::new(console),
+        files,
+        wish.slice,
+    );
+    seat.hold(wish.script, wish.is_talk);
+    seat.part()
+}
