@@ -1,5 +1,6 @@
 /* over CASES: plays cases, each a session with the answers that it is to have, by p11_session and p11_typed, with
- * buffers that are too small, and with buffers of just the wanted length; says how many, or stops at the first that is
+ * buffers that are too small, and with buffers of just the wanted length, and line by line on a machine in a handle;
+ * says how many, or stops at the first that is
  * wrong. A case is two numbers (thousands of words, decoded instructions) and four rows of bytes behind their lengths:
  * script, files, answers, typed. Numbers are of 4 bytes, the lowest first. */
 #include <stdio.h>
@@ -65,6 +66,28 @@ static int plays(call *play, uint32_t kwords, uint32_t lines, struct bytes scrip
     return good;
 }
 
+/* The same lines one by one, on a machine that is kept: all their answers. */
+static int keeps(uint32_t kwords, uint32_t lines, struct bytes script, struct bytes files, struct bytes wanted) {
+    struct p11_handle machine = {0};
+    struct bytes out = room(wanted.length);
+    size_t done = 0, text = 7;
+    int good = p11_new(kwords, lines, files.at, files.length, &machine) == P11_DONE && machine.machines == 1;
+    for (size_t from = 0, end; good && from <= script.length; from = end + 1) {
+        for (end = from; end < script.length && script.at[end] != '\n'; end++) continue;
+        size_t length = end - from;
+        if (end < script.length && length && script.at[end - 1] == '\r') length--;
+        good &= p11_line(&machine, script.at + from, length) == P11_DONE;
+        good &= p11_answer(&machine, out.at + done, out.length - done, &text) == P11_DONE;
+        done += text;
+    }
+    good &= done == wanted.length && memcmp(out.at, wanted.at, done) == 0;
+    good &= p11_files(&machine, out.at, 0, &text) == (text ? P11_TOO_SMALL : P11_DONE) && text >= files.length;
+    p11_drop(&machine);
+    good &= machine.machines == 0 && p11_answer(&machine, out.at, out.length, &text) == P11_NO_MACHINE;
+    free(out.at);
+    return good;
+}
+
 /* A size that no machine has, then bytes that are no row of files: each is told, and nothing is written. */
 static int refuses(void) {
     const uint8_t script[] = "regs\n", files[] = {1, 0, 0, 0, 'a', 2, 0, 0, 0, 'b'};
@@ -84,7 +107,8 @@ int main(int argc, char **argv) {
     while (number(in, &kwords) && number(in, &lines)) {
         struct bytes script = row(in), files = row(in), answers = row(in), typed = row(in);
         if (!plays(p11_session, kwords, lines, script, files, answers) ||
-            !plays(p11_typed, kwords, lines, script, files, typed)) {
+            !plays(p11_typed, kwords, lines, script, files, typed) ||
+            !keeps(kwords, lines, script, files, answers)) {
             fprintf(stderr, "over: case %u is wrong:\n%.*s", count, (int)script.length, (char *)script.at);
             return 1;
         }

@@ -1,8 +1,9 @@
-/* A PDP-11/40 that is proved, for C: whole sessions of the operator's console, from bytes to bytes.
+/* A PDP-11/40 that is proved, for C: whole sessions of the operator's console, from bytes to bytes, and a machine that
+ * is kept from line to line.
  *
  * Link libp11_c.a and, behind it, the toolchain's liblibc_c.a, which passes the library's requests for memory on to
  * malloc, realloc and free. The language of scripts and answers is in docs/OPERATOR.md, what is proved of these calls
- * and what a caller owes in docs/PROVED.md ("Called from C"). */
+ * and what a caller owes in docs/PROVED.md (under p11_c). */
 #ifndef P11_H
 #define P11_H
 
@@ -19,8 +20,9 @@ enum {
     P11_NO_MEMORY = 1, /* there is no memory for the machine, the files, the answers or the typed bytes */
     P11_BAD_SIZE = 2,  /* no machine has these sizes */
     P11_BAD_FILES = 3, /* the bytes of the files are no row of files */
-    P11_TOO_SMALL = 4, /* a buffer is too small: both lengths are told */
-    P11_TOO_LONG = 5   /* the script wasn't read to its end: it has 4,095,995,904 bytes or more */
+    P11_TOO_SMALL = 4, /* a buffer is too small: the lengths are told */
+    P11_TOO_LONG = 5,  /* the script wasn't read to its end: it has 4,095,995,904 bytes or more */
+    P11_NO_MACHINE = 6 /* the handle holds no machine */
 };
 
 #if defined(__GNUC__)
@@ -64,6 +66,52 @@ P11_NONNULL
 int32_t p11_typed(uint32_t kwords, uint32_t lines, const uint8_t *script, size_t script_length,
                   const uint8_t *files, size_t files_length, uint8_t *typed, size_t typed_capacity,
                   size_t *typed_length, uint8_t *files_out, size_t files_capacity, size_t *files_out_length);
+
+/* A handle, which holds a machine or none. It begins as `struct p11_handle machine = {0};`, which holds none. Only the
+ * calls below read or change it, and no copy of it is used: it owns the machine, which is the library's memory from
+ * malloc, until p11_drop. No call keeps a pointer to the handle, so it may be moved.
+ *
+ * Handles share nothing: those of different threads may be used at once. One handle may go from thread to thread, by
+ * one call at a time. The rules on pointers, signals and forks are those of p11_session. */
+struct p11_handle {
+    void *at;
+    uint32_t machines;
+};
+
+/* Makes a new machine. kwords, lines, files and files_length are as for p11_session, and the files are copied.
+ *
+ * P11_DONE: the handle holds the machine, and one that it held before is dropped. P11_NO_MEMORY, P11_BAD_SIZE,
+ * P11_BAD_FILES: the handle holds what it held. */
+P11_NONNULL
+int32_t p11_new(uint32_t kwords, uint32_t lines, const uint8_t *files, size_t files_length,
+                struct p11_handle *handle);
+
+/* Does a line of the script language on the machine: line, length are its bytes, with no LF at their end. (Bytes with
+ * LFs are done as a script, line by line.) The text of its answer is kept with the machine, in the place of the last.
+ *
+ * P11_DONE: the line is done; a refused one has its refusal in the answer, a blank one and a remark have no bytes.
+ * P11_NO_MEMORY: the line is done, but for its text there was memory for a front alone. P11_TOO_LONG: as for
+ * p11_session; the lines that were read are done. In all three cases the handle holds the machine as it is after the
+ * lines that are done. P11_NO_MACHINE: nothing is done. */
+P11_NONNULL
+int32_t p11_line(struct p11_handle *handle, const uint8_t *line, size_t length);
+
+/* Hands out the text of the last p11_line, as ./p11 writes it; not ended by a 0. None yet is a text of 0 bytes.
+ *
+ * P11_DONE: answer begins with the text, its other bytes are as they were, and answer_length is told the bytes of the
+ * text. P11_TOO_SMALL: answer_length is told them, and no byte of answer is written. P11_NO_MACHINE: nothing is written.
+ * The machine and its text stay as they are. */
+P11_NONNULL
+int32_t p11_answer(struct p11_handle *handle, uint8_t *answer, size_t answer_capacity, size_t *answer_length);
+
+/* Hands out the machine's files, as a row of the form that p11_session takes: those that were given, and behind them
+ * those that were saved. As p11_answer, and P11_NO_MEMORY: there is no memory for the row, and nothing is written. */
+P11_NONNULL
+int32_t p11_files(struct p11_handle *handle, uint8_t *files_out, size_t files_capacity, size_t *files_length);
+
+/* Drops the machine, if the handle holds one: its memory is freed, and the handle holds none. */
+P11_NONNULL
+void p11_drop(struct p11_handle *handle);
 
 #ifdef __cplusplus
 }

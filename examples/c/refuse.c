@@ -1,6 +1,6 @@
-/* refuse: plays one session while each request for memory in turn is refused, by itself and then with all that follow it;
- * says how many calls met a refusal. Linked with --wrap for malloc and realloc. A call then ends with P11_NO_MEMORY and nothing written, or
- * is done, with the refusal in an answer. */
+/* refuse: plays one session, and then its lines on a machine in a handle, while each request for memory in turn is
+ * refused, by itself and then with all that follow it; says how many calls met a refusal. Linked with --wrap for malloc
+ * and realloc. A session then ends with P11_NO_MEMORY and nothing written, or is done, with the refusal in an answer. */
 #include <stdio.h>
 #include <stdlib.h>
 #include <string.h>
@@ -30,11 +30,30 @@ void *__wrap_realloc(void *old, size_t size) {
     return is_refused() ? NULL : __real_realloc(old, size);
 }
 
+static const uint8_t script[] =
+    "mount 0 p rw\ndeposit 1000 777\nexamine 1000 3\nstart 1000\nstep 9\nsave 0 q\nregs\n";
+static const uint8_t files[] = {1, 0, 0, 0, 'p', 1, 0, 0, 0, 7};
+static uint8_t out[4096], list[4 << 20];
+
+/* A machine that is kept, whose lines are done while memory is refused: a line that is done or finds no memory leaves
+ * it, and its answer is handed out without memory. */
+static int keeps(void) {
+    struct p11_handle machine = {0};
+    size_t text = 7, list_length = 7;
+    int good = 1, status = p11_new(28, 16, files, sizeof files, &machine);
+    if (status != P11_DONE) good = status == P11_NO_MEMORY && machine.machines == 0;
+    for (const char *line = (const char *)script; machine.machines && *line; line = strchr(line, '\n') + 1) {
+        status = p11_line(&machine, (const uint8_t *)line, (size_t)(strchr(line, '\n') - line));
+        good &= (status == P11_DONE || status == P11_NO_MEMORY) && machine.machines == 1;
+        good &= p11_answer(&machine, out, sizeof out, &text) == P11_DONE;
+    }
+    status = p11_files(&machine, list, sizeof list, &list_length);
+    good &= status == P11_DONE || (list_length == 7 && (status == P11_NO_MEMORY || status == P11_NO_MACHINE));
+    p11_drop(&machine);
+    return good && machine.machines == 0;
+}
+
 int main(void) {
-    static const uint8_t script[] =
-        "mount 0 p rw\ndeposit 1000 777\nexamine 1000 3\nstart 1000\nstep 9\nsave 0 q\nregs\n";
-    static const uint8_t files[] = {1, 0, 0, 0, 'p', 1, 0, 0, 0, 7};
-    static uint8_t out[4096], list[4 << 20];
     long refused = 0;
     for (refuses_on = 0; refuses_on < 2; refuses_on++) {
         for (long granted = 0;; granted++) {
@@ -47,6 +66,15 @@ int main(void) {
             left_to_grant = -1;
             if (status == P11_NO_MEMORY ? out[0] != 0xa5 || length != 7 || list_length != 7 : status != P11_DONE)
                 return fprintf(stderr, "refuse: status %d behind %ld requests\n", status, granted), 1;
+            if (!was_refused) break;
+            refused++;
+        }
+        for (long granted = 0;; granted++) {
+            left_to_grant = granted;
+            was_refused = 0;
+            int good = keeps();
+            left_to_grant = -1;
+            if (!good) return fprintf(stderr, "refuse: a machine that is kept, behind %ld requests\n", granted), 1;
             if (!was_refused) break;
             refused++;
         }

@@ -1,4 +1,7 @@
 pub mod Calls
+pub mod Held
+pub mod HeldCalls
 pub mod Rows
+pub mod Slots
 pub mod Statuses
 pub mod Typed

@@ -1,7 +1,7 @@
 -- The number by which C knows how a call ended.
 use Rattle.std.specs.Prelude.{ℤ, pos}
 use Rattle.p11_c.specs.declared.status.Status.{Status}
-use Rattle.p11_c.specs.declared.status.Status.TheVariants.{Done, NoMemory, BadSize, BadFiles, TooSmall, TooLong}
+use Rattle.p11_c.specs.declared.status.Status.TheVariants.{Done, NoMemory, BadSize, BadFiles, TooSmall, TooLong, NoMachine}
 
 unfoldable pub number_of_status : Status → ℤ
 number_of_status Done = pos 0
@@ -10,3 +10,4 @@ number_of_status BadSize = pos 2
 number_of_status BadFiles = pos 3
 number_of_status TooSmall = pos 4
 number_of_status TooLong = pos 5
+number_of_status NoMachine = pos 6

@@ -1,17 +1,27 @@
-//! A PDP-11/40 for programs in C, Python and Rust: whole sessions of an operator's console, from bytes to bytes.
+//! A PDP-11/40 for programs in C, Python and Rust: whole sessions of an operator's console, from bytes to bytes, and
+//! a machine that is kept from line to line.
 #![tactic(auto)]
 
-ghost use Rattle.std.specs.Prelude.{List, ℕ};
+ghost use Rattle.std.specs.Prelude.{◌≡◌, ⊤, List, ℕ, None};
 ghost use Rattle.p11_c.specs.Calls.{Ends, asked_for, lent};
+ghost use Rattle.p11_c.specs.HeldCalls.{OnHeld, LinesEnd, HandsText, HandsFiles, Opens};
+ghost use Rattle.p11_c.specs.Statuses.{number_of_status};
 ghost use Rattle.p11_c.specs.Typed.{typed_in};
+ghost use Rattle.p11_c.specs.declared.status.Status.{Status};
 
+mod desk;
+mod handle;
+mod loose;
 mod rows;
 mod session;
+mod slot;
 mod status;
 mod store;
 mod typed;
 
+use crate::handle::{Handle, hand_files, hand_text, new_desk};
 use crate::session::{hand_out, play, play_typed};
+use crate::status::Status;
 pub use rows::rows_read_back;
 use std::alloc::Global;
 
@@ -74,4 +84,108 @@ pub extern "C" fn p11_typed(
         }
         Err(status) => status.number(),
     }
+}
+
+/// Makes a new machine, which the handle holds from then on in the place of what it held.
+///
+/// `kwords`, `lines` and `files` are as for `p11_session`.
+///
+/// # Errors
+///
+/// The number of a `Status`; the handle holds then what it held.
+#[unsafe(no_mangle)]
+pub extern "C" fn p11_new(
+    alloc: Global,
+    kwords: u32,
+    lines: u32,
+    files: &[u8],
+    handle: &mut Handle,
+) -> i32
+    ensures { (status : Status) × (result ≡ number_of_status status)
+        × Opens kwords lines files.now status handle.old.slot.held handle.new.slot.held }
+{
+    match new_desk(alloc, kwords, lines, files) {
+        Ok(desk) => {
+            handle.hold(alloc, desk);
+            Status::Done.number()
+        }
+        Err(status) => status.number(),
+    }
+}
+
+/// Does a line on the machine that the handle holds, or the lines of a script, as a session does them. The text of
+/// their answers is kept with the machine in the place of the last.
+///
+/// # Errors
+///
+/// The number of a `Status`. The handle holds the machine as it is then, also where it is `NoMemory` or `TooLong`.
+#[unsafe(no_mangle)]
+pub extern "C" fn p11_line(alloc: Global, handle: &mut Handle, line: &[u8]) -> i32
+    ensures { OnHeld (λ kept status kept'. LinesEnd Global line.now status kept kept') ⊤
+        handle.old.slot.held result handle.new.slot.held }
+{
+    let Some(mut desk) = handle.take(alloc) else {
+        return Status::NoMachine.number();
+    };
+    let status = desk.play(alloc, line);
+    handle.put(desk);
+    status.number()
+}
+
+/// Hands out the text of the last line's answers.
+///
+/// # Errors
+///
+/// The number of a `Status`. Too small a buffer is told with the length that is wanted, and nothing else is written.
+#[unsafe(no_mangle)]
+pub extern "C" fn p11_answer(
+    alloc: Global,
+    handle: &mut Handle,
+    answer: &mut [u8],
+    answer_length: &mut usize,
+) -> i32
+    ensures { OnHeld (λ kept status kept'. (kept' ≡ kept) × HandsText status kept.answer
+        (lent answer.old answer_length.old) (lent answer.new answer_length.new))
+        (lent answer.new answer_length.new ≡ lent answer.old answer_length.old)
+        handle.old.slot.held result handle.new.slot.held }
+{
+    let Some(desk) = handle.take(alloc) else {
+        return Status::NoMachine.number();
+    };
+    let status = hand_text(desk.answer(), answer, answer_length);
+    handle.put(desk);
+    status.number()
+}
+
+/// Hands out the row of the machine's files.
+///
+/// # Errors
+///
+/// The number of a `Status`. Too small a buffer is told with the length that is wanted, and nothing else is written.
+#[unsafe(no_mangle)]
+pub extern "C" fn p11_files(
+    alloc: Global,
+    handle: &mut Handle,
+    files: &mut [u8],
+    files_length: &mut usize,
+) -> i32
+    ensures { OnHeld (λ kept status kept'. (kept' ≡ kept) × HandsFiles status kept.files
+        (lent files.old files_length.old) (lent files.new files_length.new))
+        (lent files.new files_length.new ≡ lent files.old files_length.old)
+        handle.old.slot.held result handle.new.slot.held }
+{
+    let Some(desk) = handle.take(alloc) else {
+        return Status::NoMachine.number();
+    };
+    let status = hand_files(alloc, &desk, files, files_length);
+    handle.put(desk);
+    status.number()
+}
+
+/// Drops the machine that the handle holds, if it holds one.
+#[unsafe(no_mangle)]
+pub extern "C" fn p11_drop(alloc: Global, handle: &mut Handle)
+    ensures { handle.new.slot.held ≡ None }
+{
+    drop(handle.take(alloc));
 }

@@ -1,5 +1,5 @@
 // A session over bytes.
-ghost use Rattle.std.specs.Prelude.{◌≡◌, ◌<◌, ◌⊎◌, ℕ, List, IfOk, IfErr, OnOk};
+ghost use Rattle.std.specs.Prelude.{◌≡◌, ◌<◌, ◌⊎◌, ℕ, List, [], IfOk, IfErr};
 ghost use Rattle.std.specs.List.{All};
 ghost use Rattle.p11_cpu.specs.Operator.{new_machine};
 ghost use Rattle.p11_panel.specs.Files.{store_of};
@@ -13,7 +13,7 @@ use crate::rows::{read_row, write_row};
 use crate::status::Status;
 use crate::store::{RowStore, StoredFile};
 use crate::typed::typed_bytes;
-use p11_panel::{Config, Panel, SessionFault, session};
+use p11_panel::{Config, Panel, SessionFault, StdReader, StdWriter, session};
 use std::alloc::Global;
 use std::marker::Brand;
 use std::sync::ledger::{Blank, Ledger};
@@ -27,22 +27,24 @@ pub(crate) struct Given {
     pub(crate) files: Vec<u8>,
 }
 
-/// Does a whole script, and puts its text behind what stands there.
+/// Does a whole script: the text of its answers.
 fn run_script<L: Ledger>(
     alloc: Global,
     panel: &mut Panel,
     store: &mut RowStore<L>,
     script: &[u8],
-    text: &mut Vec<u8>,
-) -> Result<(), Status>
-    ensures ok { OnOk result ((m : ℕ) × Did (LineDoes {A = Global}) (script_lines script.now)
-        (with_store panel.old (store_of store.old)) (Some text.old.items)
-        (with_store panel.new (store_of store.new)) (Some text.new.items) m) }
+) -> Result<Vec<u8>, Status>
+    ensures ok { IfOk result (λ text. (m : ℕ) × Did (LineDoes {A = Global}) (script_lines script.now)
+        (with_store panel.old (store_of store.old)) (record { bytes = Some []; writes = None })
+        (with_store panel.new (store_of store.new)) (record { bytes = Some text.items; writes = None }) m) }
     ensures err { IfErr result (λ status. (status ≡ Status.NoMemory) ⊎ (status ≡ Status.TooLong)) }
 {
-    let mut reader = script;
-    match session(alloc, panel, store, &mut reader, text) {
-        Ok(_) => Ok(()),
+    let mut reader = StdReader { inner: script };
+    let mut writer = StdWriter {
+        inner: Vec::new(alloc),
+    };
+    match session(alloc, panel, store, &mut reader, &mut writer) {
+        Ok(_) => Ok(writer.inner),
         Err(SessionFault::Writing) => Err(Status::NoMemory),
         Err(SessionFault::Reading) => Err(Status::TooLong),
         Err(SessionFault::TooLong) => Err(Status::TooLong),
@@ -66,8 +68,7 @@ fn play_files<L: Ledger>(
     ensures err { IfErr result (λ status. (status ≡ Status.NoMemory) ⊎ (status ≡ Status.TooLong)) }
 {
     let mut store = RowStore::<L>::new(alloc, blank, files);
-    let mut text = Vec::new(alloc);
-    run_script(alloc, panel, &mut store, script, &mut text)?;
+    let text = run_script(alloc, panel, &mut store, script)?;
     let files = write_row(alloc, store.files())?;
     Ok(Given { text, files })
 }

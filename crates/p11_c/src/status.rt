@@ -20,6 +20,8 @@ pub enum Status {
     TooSmall,
     /// The script wasn't read to its end: it is too long.
     TooLong,
+    /// The handle holds no machine.
+    NoMachine,
 }
 
 impl Status {
@@ -35,6 +37,7 @@ impl Status {
             Status::BadFiles => 3,
             Status::TooSmall => 4,
             Status::TooLong => 5,
+            Status::NoMachine => 6,
         }
     }
 }

@@ -113,6 +113,19 @@ impl<L: Ledger, A: Allocator + Copy> RowStore<L, A> {
         self.files.as_slice()
     }
 
+    /// All files, in the order in which they were put.
+    pub(crate) fn into_files(self) -> Vec<StoredFile<A>, A>
+        ensures files { result.items ≡ self.files }
+        ensures fit { All Fits result.items }
+    {
+        let RowStore {
+            files,
+            refusals: _,
+            alloc: _,
+        } = self;
+        files
+    }
+
     /// Keeps one more file.
     fn add(&mut self, name: &[u8], bytes: &[u8]) -> Result<(), AllocError>
         requires { Fits (record { name = name.now; bytes = bytes.now }) }

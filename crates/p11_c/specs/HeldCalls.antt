@@ -1,0 +1,91 @@
+-- What a call does with a machine that a handle holds.
+use Rattle.std.specs.Prelude.{ℤ, ◌≡◌, ◌<◌, ◌≤◌, ◌⊎◌, ℕ, true, false, List, ◌∷◌, ◌++◌, length, None, Some}
+use Rattle.p11_lines.specs.declared.answer.Answer.{Answer}
+use Rattle.p11_lines.specs.AnswerText.{text_of}
+use Rattle.p11_panel.specs.Files.{NamedBytes, store_of}
+use Rattle.p11_panel.specs.Script.{ended_lines, script_lines}
+use Rattle.p11_panel.specs.Session.{SessionState, with_store, LineDoes, Runs, texts_of}
+use Rattle.p11_panel.specs.Sizes.{is_size}
+use Rattle.p11_c.specs.Calls.{Lent, holding, told_of}
+use Rattle.p11_c.specs.Held.{Kept, Held, new_kept}
+use Rattle.p11_c.specs.Rows.{IsRow, IsNoRow}
+use Rattle.p11_c.specs.Statuses.{number_of_status}
+use Rattle.p11_c.specs.declared.status.Status.{Status}
+use Rattle.p11_c.specs.declared.status.Status.TheVariants.{Done, NoMemory, BadSize, BadFiles, TooSmall, TooLong, NoMachine}
+
+-- what lines go on over: the machine and the files that are kept, of which so many were refused
+abbrev pub state_of : Kept → ℕ → SessionState
+state_of kept refusals = with_store kept.machine (store_of (record { files = kept.files; refusals = refusals }))
+
+-- Lines are done, one after another, and all their text is kept.
+pub record Plays (A : Type 0) (lines : List (List ℕ)) (kept kept' : Kept) : Type 0 where
+  pub answers : List (Answer A)
+  pub refusals : ℕ
+  pub runs : Runs (LineDoes {A = A}) lines (state_of kept 0) answers (state_of kept' refusals)
+  pub text_is : kept'.answer ≡ texts_of answers
+
+-- Lines up to one are done, itself included: all earlier text is kept, and a front of its own that isn't all of it.
+pub record Stops (A : Type 0) (lines : List (List ℕ)) (kept kept' : Kept) : Type 0 where
+  pub earlier : List (List ℕ)
+  pub line : List ℕ
+  pub others : List (List ℕ)
+  pub split : lines ≡ earlier ++ line ∷ others
+  pub answers : List (Answer A)
+  pub before : SessionState
+  pub runs : Runs (LineDoes {A = A}) earlier (state_of kept 0) answers before
+  pub answer : Answer A
+  pub refusals : ℕ
+  pub does : LineDoes line before (Some answer) (state_of kept' refusals)
+  pub front : List ℕ
+  pub back : List ℕ
+  pub text_is : kept'.answer ≡ texts_of answers ++ front
+  pub answer_is : text_of answer ≡ front ++ back
+  pub unkept : 0 < length back
+
+-- what is so of the front of a script that was read
+abbrev pub OfFront : List ℕ → (List ℕ → Type 0) → Type 0
+OfFront script Is = (read : List ℕ) × (rest : List ℕ) × (script ≡ read ++ rest) × Is read
+
+-- What is done of a script, by the status. Done, all of it; too long, the lines that LF ended in what was read of it;
+-- with no memory for a text, the lines up to the one whose text it is.
+unfoldable pub LinesEnd : (A : Type 0) → List ℕ → Status → Kept → Kept → Type 0
+LinesEnd A script Done kept kept' = Plays A (script_lines script) kept kept'
+LinesEnd A script TooLong kept kept' = OfFront script (λ read. Plays A (ended_lines read) kept kept')
+LinesEnd A script NoMemory kept kept' =
+    Stops A (script_lines script) kept kept' ⊎ OfFront script (λ read. Stops A (ended_lines read) kept kept')
+LinesEnd A script BadSize kept kept' = ⊥
+LinesEnd A script BadFiles kept kept' = ⊥
+LinesEnd A script TooSmall kept kept' = ⊥
+LinesEnd A script NoMachine kept kept' = ⊥
+
+-- what is handed out, by the status
+unfoldable pub HandsText : Status → List ℕ → Lent → Lent → Type 0
+HandsText Done text out out' = (length text ≤ length out.bytes) × (out' ≡ holding text out)
+HandsText TooSmall text out out' = (length out.bytes < length text) × (out' ≡ told_of text out)
+HandsText NoMemory text out out' = ⊥
+HandsText BadSize text out out' = ⊥
+HandsText BadFiles text out out' = ⊥
+HandsText TooLong text out out' = ⊥
+HandsText NoMachine text out out' = ⊥
+
+-- the files are handed out as their row, or there is no memory for the row and nothing is written
+abbrev pub HandsFiles : Status → List NamedBytes → Lent → Lent → Type 0
+HandsFiles status files out out' =
+    ((row : List ℕ) × IsRow row files × HandsText status row out out') ⊎ ((status ≡ NoMemory) × (out' ≡ out))
+
+-- what a call does where a machine is held; where none is, it says so and does nothing
+unfoldable pub OnHeld : (Kept → Status → Kept → Type 0) → Type 0 → Held → ℤ → Held → Type 0
+OnHeld Does Nothing None number held' = (number ≡ number_of_status NoMachine) × (held' ≡ None) × Nothing
+OnHeld Does Nothing (Some kept) number held' =
+    (status : Status) × (number ≡ number_of_status status) × (kept' : Kept) × (held' ≡ Some kept') × Does kept status kept'
+
+-- the handle holds a new machine of these sizes with the files of a row; or what it held, where that is refused
+unfoldable pub Opens : ℕ → ℕ → List ℕ → Status → Held → Held → Type 0
+Opens kwords lines row Done held held' = (is_size kwords lines ≡ true)
+    × ((files : List NamedBytes) × IsRow row files × (held' ≡ Some (new_kept kwords files)))
+Opens kwords lines row NoMemory held held' = (is_size kwords lines ≡ true) × (held' ≡ held)
+Opens kwords lines row BadSize held held' = (is_size kwords lines ≡ false) × (held' ≡ held)
+Opens kwords lines row BadFiles held held' = (is_size kwords lines ≡ true) × IsNoRow row × (held' ≡ held)
+Opens kwords lines row TooSmall held held' = ⊥
+Opens kwords lines row TooLong held held' = ⊥
+Opens kwords lines row NoMachine held held' = ⊥

@@ -1,0 +1,140 @@
+// A machine that is kept, with the files of its store and the text of its last answers.
+ghost use Rattle.std.specs.Prelude.{◌≡◌, ◌<◌, ℕ, List, IfOk};
+ghost use Rattle.std.specs.List.{All};
+ghost use Rattle.p11_c.specs.Held.{kept_of, new_kept};
+ghost use Rattle.p11_c.specs.HeldCalls.{LinesEnd};
+ghost use Rattle.p11_c.specs.Rows.{Fits, IsRow};
+
+use crate::rows::write_row;
+use crate::status::Status;
+use crate::store::{RowStore, StoredFile};
+use p11_panel::{Config, NoMemory, Panel, SessionFault, StdReader, StdWriter, session};
+use std::alloc::{AllocError, Global};
+use std::marker::{Brand, Model};
+use std::mem::replace;
+use std::sync::ledger::{Blank, Ledger};
+
+/// What lines leave beside the machine.
+#[derive(Drop)]
+struct Played {
+    status: Status,
+    text: Vec<u8>,
+    files: Vec<StoredFile>,
+}
+
+/// Does the lines of a script over a store that has refused nothing: how they ended, and their text.
+fn run_lines<L: Ledger>(
+    alloc: Global,
+    panel: &mut Panel,
+    store: &mut RowStore<L>,
+    script: &[u8],
+) -> (Status, Vec<u8>)
+    requires { store.old.refusals ≡ 0 }
+    ensures { (answer : List ℕ) → LinesEnd Global script.now result.0 (kept_of panel.old store.old.files answer)
+        (kept_of panel.new store.new.files result.1.items) }
+{
+    let mut reader = StdReader { inner: script };
+    let mut writer = StdWriter {
+        inner: Vec::new(alloc),
+    };
+    match session(alloc, panel, store, &mut reader, &mut writer) {
+        Ok(_) => (Status::Done, writer.inner),
+        Err(SessionFault::Writing) => (Status::NoMemory, writer.inner),
+        Err(SessionFault::Reading) => (Status::TooLong, writer.inner),
+        Err(SessionFault::TooLong) => (Status::TooLong, writer.inner),
+    }
+}
+
+/// Does the lines of a script over a store that has these files.
+fn play_lines<L: Ledger>(
+    alloc: Global,
+    blank: Blank,
+    panel: &mut Panel,
+    files: Vec<StoredFile>,
+    script: &[u8],
+) -> Played
+    requires name { blank.name ≡ L.name }
+    requires parts { blank.parts ≡ L.parts }
+    requires some { 0 < blank.parts }
+    requires fit { All Fits files.items }
+    ensures lines { (answer : List ℕ) → LinesEnd Global script.now result.status (kept_of panel.old files.items answer)
+        (kept_of panel.new result.files.items result.text.items) }
+    ensures fit { All Fits result.files.items }
+{
+    let mut store = RowStore::<L>::new(alloc, blank, files);
+    let (status, text) = run_lines(alloc, panel, &mut store, script);
+    Played {
+        status,
+        text,
+        files: store.into_files(),
+    }
+}
+
+/// A machine, the files of its store, and the text of its last answers.
+#[derive(Drop)]
+pub(crate) struct Desk {
+    panel: Panel,
+    files: Vec<StoredFile>,
+    answer: Vec<u8>,
+}
+
+impl Model for Desk {
+    ghost use Rattle.std.specs.List.{All};
+    ghost use Rattle.p11_c.specs.Held.{Kept};
+    ghost use Rattle.p11_c.specs.Rows.{Fits};
+
+    ghost Value = { Kept };
+
+    ghost view = { λ d. record { machine = d.panel; files = d.files.items; answer = d.answer.items } };
+
+    ghost invariant = { λ d. All Fits d.files.items };
+}
+
+impl Desk {
+    /// A new machine with these files.
+    pub(crate) fn new(
+        alloc: Global,
+        config: Config,
+        files: Vec<StoredFile>,
+    ) -> Result<Self, NoMemory>
+        requires { All Fits files.items }
+        ensures { IfOk result (λ desk. desk ≡ new_kept config.kwords files.items) }
+    {
+        let panel = Panel::new(alloc, config)?;
+        Ok(Desk {
+            panel,
+            files,
+            answer: Vec::new(alloc),
+        })
+    }
+
+    /// Does the lines of a script, as a session does them, and keeps their text.
+    pub(crate) fn play(&mut self, alloc: Global, script: &[u8]) -> Status
+        ensures { LinesEnd Global script.now result self.old self.new }
+    {
+        let files = replace(&mut self.files, Vec::new(alloc));
+        let played = play_lines::<Brand>(alloc, Blank::new(1), &mut self.panel, files, script);
+        let Played {
+            status,
+            text,
+            files,
+        } = played;
+        self.files = files;
+        self.answer = text;
+        status
+    }
+
+    /// The text of the last answers.
+    pub(crate) fn answer(&self) -> &[u8]
+        ensures { result.now ≡ self.now.answer }
+    {
+        self.answer.as_slice()
+    }
+
+    /// The row of the files.
+    pub(crate) fn files(&self, alloc: Global) -> Result<Vec<u8>, AllocError>
+        ensures { IfOk result (λ row. IsRow row.items self.now.files) }
+    {
+        write_row(alloc, self.files.as_slice())
+    }
+}

@@ -1,0 +1,100 @@
+// lines TAPE PACK: keeps a machine, does one line at a time, prints each answer, and saves a pack of its own as PACK.
+use std::{env, fs, io, io::Write, ptr};
+
+const LINES: [&str; 7] =
+    ["load tape", "set 6 1000", "start 1000", "continue 10000", "regs", "mount 0 blank rw", "save 0 pack"];
+
+/// What holds a machine or none.
+#[repr(C)]
+struct Handle {
+    at: *mut u8,
+    machines: u32,
+}
+
+type Call = unsafe extern "C" fn(&mut Handle, *mut u8, usize, &mut usize) -> i32;
+
+unsafe extern "C" {
+    fn p11_new(kwords: u32, lines: u32, files: *const u8, files_length: usize, handle: &mut Handle) -> i32;
+    fn p11_line(handle: &mut Handle, line: *const u8, length: usize) -> i32;
+    fn p11_answer(handle: &mut Handle, answer: *mut u8, capacity: usize, length: &mut usize) -> i32;
+    fn p11_files(handle: &mut Handle, files: *mut u8, capacity: usize, length: &mut usize) -> i32;
+    fn p11_drop(handle: &mut Handle);
+}
+
+/// A machine that is kept from line to line.
+struct Machine {
+    handle: Handle,
+}
+
+impl Machine {
+    fn new(files: &[u8]) -> Result<Machine, i32> {
+        let mut handle = Handle { at: ptr::null_mut(), machines: 0 };
+        // SAFETY: the handle holds no machine yet, and the pointer and the length are those of one slice.
+        match unsafe { p11_new(28, 1024, files.as_ptr(), files.len(), &mut handle) } {
+            0 => Ok(Machine { handle }),
+            status => Err(status),
+        }
+    }
+
+    /// What a call hands out.
+    fn handed(&mut self, call: Call) -> Result<Vec<u8>, i32> {
+        let (mut out, mut length) = (Vec::new(), 0);
+        loop {
+            out.resize(length, 0);
+            // SAFETY: the handle is this machine's alone, and the pointer and the length are those of one `Vec`.
+            match unsafe { call(&mut self.handle, out.as_mut_ptr(), out.len(), &mut length) } {
+                0 => return Ok(out),
+                4 => continue,
+                status => return Err(status),
+            }
+        }
+    }
+
+    fn line(&mut self, line: &str) -> Result<Vec<u8>, i32> {
+        // SAFETY: the handle is this machine's alone, and the pointer and the length are those of one slice.
+        match unsafe { p11_line(&mut self.handle, line.as_ptr(), line.len()) } {
+            0 => self.handed(p11_answer),
+            status => Err(status),
+        }
+    }
+}
+
+impl Drop for Machine {
+    fn drop(&mut self) {
+        // SAFETY: the handle is this machine's alone.
+        unsafe { p11_drop(&mut self.handle) }
+    }
+}
+
+/// The row of files.
+fn row(files: &[(&[u8], &[u8])]) -> Vec<u8> {
+    let parts = files.iter().flat_map(|(name, bytes)| [*name, *bytes]);
+    parts.flat_map(|part| [&(part.len() as u32).to_le_bytes(), part].concat()).collect()
+}
+
+/// The bytes at the front of a row, and what follows them.
+fn take(row: &[u8]) -> (&[u8], &[u8]) {
+    let (length, rest) = row.split_at(4);
+    rest.split_at(u32::from_le_bytes(length.try_into().unwrap()) as usize)
+}
+
+fn main() -> io::Result<()> {
+    let paths: Vec<String> = env::args().collect();
+    let tape = fs::read(&paths[1])?;
+    let failed = |status: i32| io::Error::other(format!("status {status}"));
+    let mut machine = Machine::new(&row(&[(b"tape", &tape), (b"blank", b"")])).map_err(failed)?;
+    for line in LINES {
+        io::stdout().write_all(&machine.line(line).map_err(failed)?)?;
+    }
+    let files = machine.handed(p11_files).map_err(failed)?;
+    let mut row = &files[..];
+    while !row.is_empty() {
+        let (name, rest) = take(row);
+        let (bytes, after) = take(rest);
+        if name == b"pack" {
+            fs::write(&paths[2], bytes)?;
+        }
+        row = after;
+    }
+    Ok(())
+}
