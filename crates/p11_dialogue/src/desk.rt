@@ -58,6 +58,7 @@ impl<A: Allocator, S: Store, T: Write, L: Write, O: Opening> Model for Desk<A, S
 }
 
 /// What a dialogue is held over: a machine with its store of files, the writer of what it types, and that of the record.
+#[derive(Drop)]
 pub struct Station<A: Allocator, S, T, L> {
     pub panel: Panel<A>,
     pub store: S,
@@ -66,6 +67,7 @@ pub struct Station<A: Allocator, S, T, L> {
 }
 
 /// What is left of a dialogue when it is over.
+#[derive(Drop)]
 pub struct Parting<A: Allocator, S, T, L> {
     pub station: Station<A, S, T, L>,
     /// Whether a write of what the machine typed failed, or took nothing.
