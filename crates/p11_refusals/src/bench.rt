@@ -1,7 +1,6 @@
 use crate::case::Setting;
-use crate::shelf::Shelf;
-use p11_panel::{Panel, StdReader, StdWriter, session};
-use p11_test_data::{Wrong, bad_line};
+use p11_panel::Panel;
+use p11_test_data::{Shelf, Wrong, ask};
 use std::alloc::{Allocator, Global};
 use std::sync::ledger::Ledger;
 
@@ -16,25 +15,8 @@ pub(crate) struct Bench<L: Ledger, A: Allocator> {
 impl<L: Ledger, A: Allocator + Copy> Bench<L, A> {
     /// What a session over a script answers.
     pub(crate) fn ask(&mut self, alloc: Global, script: &str) -> Result<String, Wrong> {
-        let mut reader = StdReader {
-            inner: script.as_bytes(),
-        };
-        let mut written = Vec::new(alloc);
-        let mut writer = StdWriter {
-            inner: &mut written,
-        };
         let heap = self.heap;
-        let played = session(
-            heap,
-            &mut self.panel,
-            &mut self.shelf,
-            &mut reader,
-            &mut writer,
-        );
-        if played.is_err() {
-            return Err(bad_line(alloc, script));
-        }
-        text_of(alloc, written)
+        ask(alloc, heap, &mut self.panel, &mut self.shelf, script)
     }
 
     /// All that shows of the machine: registers, devices, the changed sectors, and what the case looks at.
@@ -52,13 +34,5 @@ impl<L: Ledger, A: Allocator + Copy> Bench<L, A> {
             left.push(Vec::from_slice(alloc, bytes)?)?;
         }
         Ok(left)
-    }
-}
-
-/// The text of bytes.
-pub(crate) fn text_of(alloc: Global, bytes: Vec<u8>) -> Result<String, Wrong> {
-    match String::from_utf8(bytes) {
-        Ok(text) => Ok(text),
-        Err(_) => Err(bad_line(alloc, "an answer that is no text")),
     }
 }

@@ -1,11 +1,10 @@
 // Sizes, and commands that no line gives.
 use crate::ballast::{Ballast, MOST_TRIES};
-use crate::bench::text_of;
 use crate::case::Places;
 use linked_list_allocator::LocalHeap;
 use p11_lines::{StdWriter, put_answer};
 use p11_panel::{Answer, Bytes, Command, Config, Fault, Panel, Words, play};
-use p11_test_data::{Wrong, bad_line, same};
+use p11_test_data::{Wrong, bad_line, same, text_of};
 use std::alloc::{AllocError, Allocator, Global};
 
 /// Thousands of words, decoded words, and what becomes of them.

@@ -3,9 +3,8 @@ ghost use Rattle.std.specs.Prelude.{◌≡◌, ◌<◌};
 
 use crate::bench::Bench;
 use crate::case::Setting;
-use crate::shelf::Shelf;
 use p11_panel::Panel;
-use p11_test_data::{Wrong, bad_line, same};
+use p11_test_data::{Shelf, Wrong, bad_line, same};
 use std::alloc::Global;
 use std::marker::Brand;
 use std::sync::ledger::{Blank, Ledger};

@@ -1,9 +1,8 @@
 // How a script is cut into lines, and how it ends.
 use crate::by_hand::small;
 use crate::case::{Case, Setting};
-use crate::pieces::{EndlessReader, PieceReader, PieceWriter};
 use crate::streams::play;
-use p11_test_data::{Wrong, bad_line, same};
+use p11_test_data::{EndlessReader, PieceReader, PieceWriter, Wrong, bad_line, same};
 use std::alloc::{AllocError, Global};
 
 /// A front, how many spaces stand behind it, an end, and what the script comes to.

@@ -1,13 +1,11 @@
 // Sessions whose reader or writer fails, at each byte.
 ghost use Rattle.std.specs.Prelude.{◌≡◌, ◌<◌};
 
-use crate::bench::{Bench, text_of};
+use crate::bench::Bench;
 use crate::calm::{Played, new_panel};
 use crate::case::Setting;
-use crate::pieces::{PieceReader, PieceWriter};
-use crate::shelf::Shelf;
 use p11_panel::{SessionFault, StdReader, StdWriter, session};
-use p11_test_data::{Wrong, bad_line, same};
+use p11_test_data::{PieceReader, PieceWriter, Shelf, Wrong, bad_line, same, text_of};
 use std::alloc::{AllocError, Global};
 use std::io::{Read, Write};
 use std::marker::Brand;

@@ -5,14 +5,14 @@ use std::{io, mem};
 
 /// A reader that gives what it has in pieces of at most so many bytes, and then ends or fails.
 #[derive(Drop)]
-pub(crate) struct PieceReader<'a> {
+pub struct PieceReader<'a> {
     left: &'a [u8],
     most: usize,
     fails: bool,
 }
 
 impl<'a> PieceReader<'a> {
-    pub(crate) fn new(left: &'a [u8], most: usize, fails: bool) -> Self {
+    pub fn new(left: &'a [u8], most: usize, fails: bool) -> Self {
         PieceReader { left, most, fails }
     }
 }
@@ -36,8 +36,8 @@ impl Read for PieceReader<'_> {
 
 /// A reader that gives LF without end, and counts its reads.
 #[derive(Drop)]
-pub(crate) struct EndlessReader {
-    pub(crate) reads: u32,
+pub struct EndlessReader {
+    pub reads: u32,
 }
 
 impl Read for EndlessReader {
@@ -53,7 +53,7 @@ impl Read for EndlessReader {
 
 /// A writer that takes so many bytes in pieces of at most so many, and then takes none or fails.
 #[derive(Drop)]
-pub(crate) struct PieceWriter {
+pub struct PieceWriter {
     bytes: Vec<u8>,
     room: usize,
     most: usize,
@@ -62,7 +62,7 @@ pub(crate) struct PieceWriter {
 }
 
 impl PieceWriter {
-    pub(crate) fn new(alloc: Global, room: usize, most: usize, fails: bool) -> Self {
+    pub fn new(alloc: Global, room: usize, most: usize, fails: bool) -> Self {
         PieceWriter {
             bytes: Vec::new(alloc),
             room,
@@ -73,12 +73,12 @@ impl PieceWriter {
     }
 
     /// Gives up what was written.
-    pub(crate) fn take(&mut self, alloc: Global) -> Vec<u8> {
+    pub fn take(&mut self, alloc: Global) -> Vec<u8> {
         mem::replace(&mut self.bytes, Vec::new(alloc))
     }
 
     /// How many writes there were.
-    pub(crate) fn writes(&self) -> u32 {
+    pub fn writes(&self) -> u32 {
         self.writes
     }
 }

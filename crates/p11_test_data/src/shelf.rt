@@ -1,15 +1,15 @@
 // A store of which one call may be refused.
 ghost use Rattle.std.specs.Prelude.{◌≡◌, ◌<◌};
 
+use crate::stored_file::StoredFile;
 use p11_panel::{Refusals, Store, StoreError};
-use p11_test_data::StoredFile;
 use std::alloc::{AllocError, Allocator, Global};
 use std::sync::ledger::{Blank, Ledger};
 
 /// Files in memory, of which one call may be refused. Contracts know how often it has refused, and nothing of its
 /// files.
 #[derive(Drop)]
-pub(crate) struct Shelf<L: Ledger> {
+pub struct Shelf<L: Ledger> {
     alloc: Global,
     files: Vec<StoredFile>,
     calls: u32,
@@ -20,7 +20,7 @@ pub(crate) struct Shelf<L: Ledger> {
 
 impl<L: Ledger> Shelf<L> {
     /// A store with these files.
-    pub(crate) fn new(
+    pub fn new(
         alloc: Global,
         blank: Blank,
         files: &[StoredFile],
@@ -45,12 +45,12 @@ impl<L: Ledger> Shelf<L> {
     }
 
     /// How many calls were made.
-    pub(crate) fn calls(&self) -> u32 {
+    pub fn calls(&self) -> u32 {
         self.calls
     }
 
     /// The bytes under a name.
-    pub(crate) fn bytes_under(&self, name: &[u8]) -> Option<&[u8]> {
+    pub fn bytes_under(&self, name: &[u8]) -> Option<&[u8]> {
         bytes_under(self.files.as_slice(), name)
     }
 }

@@ -1,0 +1,179 @@
+// A dialogue that is held, with nothing in its way or with something.
+ghost use Rattle.std.specs.Prelude.{◌≡◌, ◌<◌};
+
+use crate::escapes::line_of_keys;
+use crate::keys::{Keys, MemoryReasons};
+use crate::replay::{new_panel, replay, shown};
+use crate::talk::Talk;
+use p11_dialogue::{Parting, Person, Station, converse};
+use p11_panel::Panel;
+use p11_test_data::{PieceWriter, Shelf, StoredFile, Wrong, same, text_of};
+use std::alloc::{Allocator, Global};
+use std::marker::Brand;
+use std::sync::ledger::{Blank, Ledger};
+
+/// What fails while a dialogue is held.
+#[derive(Clone, Copy, Debug, PartialEq, Eq)]
+pub(crate) struct Trouble {
+    /// Bytes that the screen takes.
+    pub(crate) screen: usize,
+    /// Bytes that the record takes.
+    pub(crate) record: usize,
+    /// Bytes that the console's writer takes.
+    pub(crate) said: usize,
+    /// Whether a writer with no room fails, or takes nothing.
+    pub(crate) fails: bool,
+    /// The number of the read that fails; 0 is none.
+    pub(crate) read: usize,
+    /// The number of the store's call that is refused; 0 is none.
+    pub(crate) call: u32,
+}
+
+/// Nothing fails.
+pub(crate) const CALM: Trouble = Trouble {
+    screen: usize::MAX,
+    record: usize::MAX,
+    said: usize::MAX,
+    fails: true,
+    read: 0,
+    call: 0,
+};
+
+/// What a dialogue came to.
+#[derive(Drop)]
+pub(crate) struct Came {
+    pub(crate) screen: Vec<u8>,
+    pub(crate) said: Vec<u8>,
+    pub(crate) record: String,
+    /// What shows of the machine at the end.
+    pub(crate) state: String,
+    /// How many calls of the store there were.
+    pub(crate) calls: u32,
+    /// Whether the screen, the record, the console's writer or the keyboard failed.
+    pub(crate) faults: [bool; 4],
+}
+
+/// Holds a dialogue with nothing in its way, and compares it with what is written down; its record gives the same.
+pub(crate) fn hold_whole(
+    alloc: Global,
+    talk: &Talk,
+    files: &[StoredFile],
+) -> Result<Came, Wrong> {
+    let panel = new_panel(alloc, alloc)?;
+    let came = hold(alloc, alloc, panel, (talk, files), CALM)?;
+    let said = text_of(alloc, Vec::from_slice(alloc, came.said.as_slice())?)?;
+    let found = notes(alloc, came.screen.as_slice(), said.as_str(), came.record.as_str())?;
+    let written = notes(
+        alloc,
+        talk.screen.as_slice(),
+        talk.said.as_str(),
+        talk.record.as_str(),
+    )?;
+    let name = talk.name.as_str();
+    same(alloc, name, written.as_str(), found.as_str())?;
+    gives_the_same(alloc, files, name, &came)?;
+    Ok(came)
+}
+
+/// What the machine typed, what the console said, and what was recorded.
+fn notes(alloc: Global, screen: &[u8], said: &str, record: &str) -> Result<String, Wrong> {
+    let typed = line_of_keys(alloc, screen)?;
+    Ok(format!(in alloc; "{typed}\n{said}{record}")?)
+}
+
+/// The record, played on a new machine, types the same and leaves the same.
+pub(crate) fn gives_the_same(
+    alloc: Global,
+    files: &[StoredFile],
+    place: &str,
+    came: &Came,
+) -> Result<(), Wrong> {
+    let again = replay(alloc, files, came.record.as_str())?;
+    let typed = line_of_keys(alloc, came.screen.as_slice())?;
+    let typed_again = line_of_keys(alloc, again.typed.as_slice())?;
+    same(alloc, place, typed.as_str(), typed_again.as_str())?;
+    same(alloc, place, came.state.as_str(), again.state.as_str())
+}
+
+/// Holds a dialogue.
+pub(crate) fn hold<A: Allocator + Copy>(
+    alloc: Global,
+    heap: A,
+    panel: Panel<A>,
+    what: (&Talk, &[StoredFile]),
+    trouble: Trouble,
+) -> Result<Came, Wrong> {
+    hold_counted::<Brand, A>(alloc, heap, Blank::new(1), panel, what, trouble)
+}
+
+/// The same, with a store whose refusals are counted from a blank on.
+fn hold_counted<L: Ledger, A: Allocator + Copy>(
+    alloc: Global,
+    heap: A,
+    blank: Blank,
+    panel: Panel<A>,
+    what: (&Talk, &[StoredFile]),
+    trouble: Trouble,
+) -> Result<Came, Wrong>
+    requires name { blank.name ≡ L.name }
+    requires parts { blank.parts ≡ L.parts }
+    requires some { 0 < blank.parts }
+{
+    let (talk, files) = what;
+    let shelf = Shelf::<L>::new(alloc, blank, files, trouble.call)?;
+    hold_with(alloc, heap, (panel, shelf), talk, trouble)
+}
+
+/// The same, with this store.
+fn hold_with<L: Ledger, A: Allocator + Copy>(
+    alloc: Global,
+    heap: A,
+    (panel, store): (Panel<A>, Shelf<L>),
+    talk: &Talk,
+    trouble: Trouble,
+) -> Result<Came, Wrong> {
+    let mut said = paper(alloc, trouble.said, trouble);
+    let station = Station {
+        panel,
+        store,
+        screen: paper(alloc, trouble.screen, trouble),
+        journal: paper(alloc, trouble.record, trouble),
+    };
+    let person = Person {
+        keyboard: Keys::new(talk.reads.as_slice(), talk.is_terminal, trouble.read),
+        console: &mut said,
+        files: MemoryReasons,
+    };
+    let Parting {
+        station,
+        is_screen_torn,
+        is_journal_torn,
+        is_console_torn,
+        has_read_fault,
+    } = converse(heap, station, person, &talk.wish());
+    let Station {
+        mut panel,
+        mut store,
+        mut screen,
+        mut journal,
+    } = station;
+    let calls = store.calls();
+    Ok(Came {
+        screen: screen.take(alloc),
+        said: said.take(alloc),
+        record: text_of(alloc, journal.take(alloc))?,
+        state: shown(alloc, heap, &mut panel, &mut store)?,
+        calls,
+        faults: [
+            is_screen_torn,
+            is_journal_torn,
+            is_console_torn,
+            has_read_fault,
+        ],
+    })
+}
+
+/// A writer that takes so many bytes.
+fn paper(alloc: Global, room: usize, trouble: Trouble) -> PieceWriter {
+    PieceWriter::new(alloc, room, usize::MAX, trouble.fails)
+}
