@@ -55,8 +55,11 @@ fn tear(
     let place = format!(in alloc; "{}: {trouble:?}", talk.name)?;
     let panel = new_panel(alloc, alloc)?;
     let came = hold(alloc, alloc, panel, (talk, files), trouble)?;
-    let is_front = is_front(whole.screen.as_slice(), came.screen.as_slice(), trouble.screen)
-        && is_front(whole.said.as_slice(), came.said.as_slice(), trouble.said)
+    let is_front = is_front(
+        whole.screen.as_slice(),
+        came.screen.as_slice(),
+        trouble.screen,
+    ) && is_front(whole.said.as_slice(), came.said.as_slice(), trouble.said)
         && is_front(
             whole.record.as_str().as_bytes(),
             came.record.as_str().as_bytes(),
@@ -83,11 +86,7 @@ fn is_front(whole: &[u8], came: &[u8], room: usize) -> bool {
 }
 
 /// Memory has so many bytes: whatever is refused, the record gives the same.
-fn starve(
-    alloc: Global,
-    (talk, files): (&Talk, &[StoredFile]),
-    size: usize,
-) -> Result<(), Wrong> {
+fn starve(alloc: Global, (talk, files): (&Talk, &[StoredFile]), size: usize) -> Result<(), Wrong> {
     let heap = LocalHeap::new(alloc, size)?;
     let Ok(panel) = new_panel(alloc, &heap) else {
         return Ok(());

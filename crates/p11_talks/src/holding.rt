@@ -54,15 +54,16 @@ pub(crate) struct Came {
 }
 
 /// Holds a dialogue with nothing in its way, and compares it with what is written down; its record gives the same.
-pub(crate) fn hold_whole(
-    alloc: Global,
-    talk: &Talk,
-    files: &[StoredFile],
-) -> Result<Came, Wrong> {
+pub(crate) fn hold_whole(alloc: Global, talk: &Talk, files: &[StoredFile]) -> Result<Came, Wrong> {
     let panel = new_panel(alloc, alloc)?;
     let came = hold(alloc, alloc, panel, (talk, files), CALM)?;
     let said = text_of(alloc, Vec::from_slice(alloc, came.said.as_slice())?)?;
-    let found = notes(alloc, came.screen.as_slice(), said.as_str(), came.record.as_str())?;
+    let found = notes(
+        alloc,
+        came.screen.as_slice(),
+        said.as_str(),
+        came.record.as_str(),
+    )?;
     let written = notes(
         alloc,
         talk.screen.as_slice(),

@@ -1,6 +1,6 @@
 use p11_dialogue::{Explain, Keyboard};
-use std::io::{ErrorKind, Read};
 use std::io;
+use std::io::{ErrorKind, Read};
 
 /// A keyboard that gives what is written down, read by read, and then is at its end; at a terminal it fails there.
 #[derive(Drop)]
