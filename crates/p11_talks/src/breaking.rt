@@ -1,6 +1,6 @@
 // Dialogues in whose way something is: a writer, the keyboard, the store, or memory.
 use crate::holding::{CALM, Came, Trouble, gives_the_same, hold};
-use crate::replay::new_panel;
+use crate::records::new_panel;
 use crate::talk::Talk;
 use linked_list_allocator::LocalHeap;
 use p11_test_data::{StoredFile, Wrong, bad_line};

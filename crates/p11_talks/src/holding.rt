@@ -3,7 +3,7 @@ ghost use Rattle.std.specs.Prelude.{◌≡◌, ◌<◌};
 
 use crate::escapes::line_of_keys;
 use crate::keys::{Keys, MemoryReasons};
-use crate::replay::{new_panel, replay, shown};
+use crate::records::{new_panel, play_record, shown};
 use crate::talk::Talk;
 use p11_dialogue::{Parting, Person, Station, converse};
 use p11_panel::Panel;
@@ -89,7 +89,7 @@ pub(crate) fn gives_the_same(
     place: &str,
     came: &Came,
 ) -> Result<(), Wrong> {
-    let again = replay(alloc, files, came.record.as_str())?;
+    let again = play_record(alloc, files, came)?;
     let typed = line_of_keys(alloc, came.screen.as_slice())?;
     let typed_again = line_of_keys(alloc, again.typed.as_slice())?;
     same(alloc, place, typed.as_str(), typed_again.as_str())?;

@@ -13,7 +13,7 @@ mod breaking;
 mod escapes;
 mod holding;
 mod keys;
-mod replay;
+mod records;
 mod talk;
 mod talks;
 

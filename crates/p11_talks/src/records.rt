@@ -2,6 +2,7 @@
 ghost use Rattle.std.specs.Prelude.{◌≡◌, ◌<◌};
 
 use crate::escapes::bytes_of;
+use crate::holding::Came;
 use p11_panel::{Config, Panel, Store};
 use p11_test_data::{Shelf, StoredFile, Wrong, ask, bad_line};
 use std::alloc::{Allocator, Global};
@@ -44,17 +45,21 @@ pub(crate) fn shown<A: Allocator + Copy, S: Store>(
     ask(alloc, heap, panel, store, "regs\ndevice\n")
 }
 
-/// Plays a record on a new machine.
-pub(crate) fn replay(alloc: Global, files: &[StoredFile], record: &str) -> Result<Again, Wrong> {
-    replay_counted::<Brand>(alloc, Blank::new(1), files, record)
+/// Plays the record of a dialogue on a new machine.
+pub(crate) fn play_record(
+    alloc: Global,
+    files: &[StoredFile],
+    came: &Came,
+) -> Result<Again, Wrong> {
+    play_counted::<Brand>(alloc, Blank::new(1), files, came)
 }
 
 /// The same, with a store whose refusals are counted from a blank on.
-fn replay_counted<L: Ledger>(
+fn play_counted<L: Ledger>(
     alloc: Global,
     blank: Blank,
     files: &[StoredFile],
-    record: &str,
+    came: &Came,
 ) -> Result<Again, Wrong>
     requires name { blank.name ≡ L.name }
     requires parts { blank.parts ≡ L.parts }
@@ -62,7 +67,7 @@ fn replay_counted<L: Ledger>(
 {
     let mut shelf = Shelf::<L>::new(alloc, blank, files, 0)?;
     let mut panel = new_panel(alloc, alloc)?;
-    let answers = ask(alloc, alloc, &mut panel, &mut shelf, record)?;
+    let answers = ask(alloc, alloc, &mut panel, &mut shelf, came.record.as_str())?;
     let mut typed = Vec::new(alloc);
     for line in answers.as_str().lines() {
         if let Some(text) = line.strip_prefix("TTY ") {
