@@ -6,10 +6,13 @@ use linked_list_allocator::LocalHeap;
 use p11_test_data::{StoredFile, Wrong, bad_line};
 use std::alloc::Global;
 
-/// The sizes of heaps that are tried, in bytes.
-const HEAPS: [usize; 12] = [
-    16_384, 17_408, 18_432, 19_456, 20_480, 21_504, 22_528, 24_576, 26_624, 28_672, 30_720, 32_768,
-];
+/// Heaps are tried of so many bytes and each greater multiple, from one that is too small for a machine to one with
+/// ample memory for all but the image of a pack.
+const PIECE: usize = 64;
+
+const FEWEST: usize = 128;
+
+const MOST: usize = 320;
 
 /// Holds a dialogue again and again, with something else in its way each time, and compares it with the whole one.
 pub(crate) fn break_all(
@@ -38,14 +41,19 @@ pub(crate) fn break_all(
         let came = hold(alloc, alloc, panel, (talk, files), Trouble { call, ..CALM })?;
         gives_the_same(alloc, files, talk.name.as_str(), &came)?;
     }
-    for size in HEAPS {
-        starve(alloc, (talk, files), size)?;
+    let mut is_refused = false;
+    for pieces in FEWEST..MOST {
+        is_refused |= starve(alloc, (talk, files), whole, pieces.saturating_mul(PIECE))?;
     }
-    Ok(())
+    if is_refused {
+        Ok(())
+    } else {
+        Err(bad_line(alloc, "no heap was too small"))
+    }
 }
 
-/// A writer or the keyboard fails: what came is a front of the whole dialogue, up to the byte that was not taken; and
-/// the record, where both writers of the machine took all, gives the same.
+/// A writer or the keyboard fails: what came is a front of the whole dialogue, and the record gives the same, where
+/// both writers of the machine took all.
 fn tear(
     alloc: Global,
     (talk, files): (&Talk, &[StoredFile]),
@@ -55,23 +63,13 @@ fn tear(
     let place = format!(in alloc; "{}: {trouble:?}", talk.name)?;
     let panel = new_panel(alloc, alloc)?;
     let came = hold(alloc, alloc, panel, (talk, files), trouble)?;
-    let is_front = is_front(
-        whole.screen.as_slice(),
-        came.screen.as_slice(),
-        trouble.screen,
-    ) && is_front(whole.said.as_slice(), came.said.as_slice(), trouble.said)
-        && is_front(
-            whole.record.as_str().as_bytes(),
-            came.record.as_str().as_bytes(),
-            trouble.record,
-        );
     let faults = [
         trouble.screen < usize::MAX,
         trouble.record < usize::MAX,
         trouble.said < usize::MAX,
         trouble.read > 0,
     ];
-    if !is_front || came.faults != faults {
+    if !are_fronts(whole, &came, trouble) || came.faults != faults {
         return Err(bad_line(alloc, place.as_str()));
     }
     if came.faults[0] || came.faults[1] {
@@ -80,18 +78,39 @@ fn tear(
     gives_the_same(alloc, files, place.as_str(), &came)
 }
 
+/// Whether each text is a front of the whole dialogue's, up to the byte that was not taken. After a read that failed the
+/// console says what it says at an end.
+fn are_fronts(whole: &Came, came: &Came, trouble: Trouble) -> bool {
+    let whole_record = whole.record.as_str().as_bytes();
+    let record = came.record.as_str().as_bytes();
+    let is_ended = trouble.read > 0;
+    is_front(whole_record, record, trouble.record)
+        && is_front(
+            whole.screen.as_slice(),
+            came.screen.as_slice(),
+            trouble.screen,
+        )
+        && (is_ended || is_front(whole.said.as_slice(), came.said.as_slice(), trouble.said))
+}
+
 /// Whether a writer with this room has a front of the whole text, up to the room where that is less.
 fn is_front(whole: &[u8], came: &[u8], room: usize) -> bool {
     whole.starts_with(came) && (room >= whole.len() || came.len() == room)
 }
 
-/// Memory has so many bytes: whatever is refused, the record gives the same.
-fn starve(alloc: Global, (talk, files): (&Talk, &[StoredFile]), size: usize) -> Result<(), Wrong> {
+/// Memory has so many bytes: whatever is refused, the record gives the same. Whether something was.
+fn starve(
+    alloc: Global,
+    (talk, files): (&Talk, &[StoredFile]),
+    whole: &Came,
+    size: usize,
+) -> Result<bool, Wrong> {
     let heap = LocalHeap::new(alloc, size)?;
     let Ok(panel) = new_panel(alloc, &heap) else {
-        return Ok(());
+        return Ok(false);
     };
     let came = hold(alloc, &heap, panel, (talk, files), CALM)?;
     let place = format!(in alloc; "{}: a heap of {size} bytes", talk.name)?;
-    gives_the_same(alloc, files, place.as_str(), &came)
+    gives_the_same(alloc, files, place.as_str(), &came)?;
+    Ok(came.said.as_slice() != whole.said.as_slice())
 }
