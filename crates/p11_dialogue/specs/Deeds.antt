@@ -78,7 +78,7 @@ abbrev pub WrittenUnless : Bool → Option (List ℕ) → Option (List ℕ) → 
 WrittenUnless torn old new text = MatchBool torn (Fronts old new text) (Appends old new text)
 
 -- These deeds, and no others, are done between two scenes: the screen has the bytes that the machine typed, and the
--- record the lines that give them again.
+-- record their lines.
 pub record Dialogue {A : Type 0} (deeds : List (Deed A)) (screen_torn journal_torn : Bool) (s s' : Scene) : Type 0 where
   pub done : Happen deeds s.session s'.session
   pub typed : WrittenUnless screen_torn s.screen s'.screen (flat_map typed_by deeds)
