@@ -1,4 +1,5 @@
-"""lines.py LIBRARY TAPE PACK: keeps a machine, does one line at a time, prints each answer, and saves a pack as PACK."""
+"""lines.py LIBRARY TAPE PACK: keeps a machine, puts a tape and an empty pack into its store, and does one line at a
+time; prints each answer, and behind them what was typed and R0; saves a pack of its own as PACK."""
 import ctypes
 import struct
 import sys
@@ -12,9 +13,10 @@ class Handle(ctypes.Structure):
     _fields_ = [("at", ctypes.c_void_p), ("machines", ctypes.c_uint32)]
 
 
-def row(files):
-    """The row of files, by name."""
-    return b"".join(struct.pack("<I", len(part)) + part for file in files.items() for part in file)
+class Registers(ctypes.Structure):
+    """The registers of a machine."""
+    _fields_ = [("turns", ctypes.c_uint64), ("general", ctypes.c_uint16 * 6)] + [
+        (name, ctypes.c_uint16) for name in ("kernel_sp", "user_sp", "pc", "status", "status_0", "status_2", "mark")]
 
 
 def files_of(row):
@@ -30,9 +32,9 @@ def files_of(row):
 class Machine:
     """A machine that is kept from line to line."""
 
-    def __init__(self, library, files, kwords=28, lines=1024):
-        self.p11, self.handle, given = library, Handle(), row(files)
-        self.done(self.p11.p11_new(kwords, lines, given, ctypes.c_size_t(len(given)), ctypes.byref(self.handle)))
+    def __init__(self, library, kwords=28, lines=1024):
+        self.p11, self.handle = library, Handle()
+        self.done(self.p11.p11_new(kwords, lines, b"", ctypes.c_size_t(0), ctypes.byref(self.handle)))
 
     def done(self, status):
         if status:
@@ -48,9 +50,19 @@ class Machine:
         self.done(status)
         return out.raw[:length.value]
 
+    def put(self, name, held):
+        sizes = [ctypes.c_size_t(len(part)) for part in (name, held)]
+        self.done(self.p11.p11_put_file(ctypes.byref(self.handle), name, sizes[0], held, sizes[1]))
+
     def line(self, line):
+        """The text of a line's answer, and the bytes that were typed."""
         self.done(self.p11.p11_line(ctypes.byref(self.handle), line, ctypes.c_size_t(len(line))))
-        return self.handed(self.p11.p11_answer)
+        return self.handed(self.p11.p11_answer), self.handed(self.p11.p11_typed_text)
+
+    def registers(self):
+        registers = Registers()
+        self.done(self.p11.p11_regs(ctypes.byref(self.handle), ctypes.byref(registers)))
+        return registers
 
     def files(self):
         return files_of(self.handed(self.p11.p11_files))
@@ -59,10 +71,12 @@ class Machine:
         self.p11.p11_drop(ctypes.byref(self.handle))
 
 
+machine = Machine(ctypes.CDLL(sys.argv[1]))
 with open(sys.argv[2], "rb") as tape:
-    machine = Machine(ctypes.CDLL(sys.argv[1]), {b"tape": tape.read(), b"blank": b""})
-for line in LINES:
-    sys.stdout.write(machine.line(line).decode("latin-1"))
+    machine.put(b"tape", tape.read())
+machine.put(b"blank", b"")
+answers, typed = zip(*map(machine.line, LINES))
+sys.stdout.buffer.write(b"".join(answers + typed) + b"R0 is %06o\n" % machine.registers().general[0])
 with open(sys.argv[3], "wb") as pack:
     pack.write(machine.files()[b"pack"])
 machine.drop()

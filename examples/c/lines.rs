@@ -1,4 +1,5 @@
-// lines TAPE PACK: keeps a machine, does one line at a time, prints each answer, and saves a pack of its own as PACK.
+// lines TAPE PACK: keeps a machine, puts a tape and an empty pack into its store, and does one line at a time; prints
+// each answer, and behind them what was typed and R0; saves a pack of its own as PACK.
 use std::{env, fs, io, io::Write, ptr};
 
 const LINES: [&str; 7] =
@@ -11,12 +12,30 @@ struct Handle {
     machines: u32,
 }
 
+/// The registers of a machine.
+#[repr(C)]
+#[derive(Default)]
+struct Registers {
+    turns: u64,
+    general: [u16; 6],
+    kernel_sp: u16,
+    user_sp: u16,
+    pc: u16,
+    status: u16,
+    status_0: u16,
+    status_2: u16,
+    mark: u16,
+}
+
 type Call = unsafe extern "C" fn(&mut Handle, *mut u8, usize, &mut usize) -> i32;
 
 unsafe extern "C" {
     fn p11_new(kwords: u32, lines: u32, files: *const u8, files_length: usize, handle: &mut Handle) -> i32;
     fn p11_line(handle: &mut Handle, line: *const u8, length: usize) -> i32;
+    fn p11_put_file(handle: &mut Handle, name: *const u8, name_length: usize, bytes: *const u8, length: usize) -> i32;
     fn p11_answer(handle: &mut Handle, answer: *mut u8, capacity: usize, length: &mut usize) -> i32;
+    fn p11_typed_text(handle: &mut Handle, typed: *mut u8, capacity: usize, length: &mut usize) -> i32;
+    fn p11_regs(handle: &mut Handle, regs: &mut Registers) -> i32;
     fn p11_files(handle: &mut Handle, files: *mut u8, capacity: usize, length: &mut usize) -> i32;
     fn p11_drop(handle: &mut Handle);
 }
@@ -36,6 +55,14 @@ impl Machine {
         }
     }
 
+    fn put(&mut self, name: &str, bytes: &[u8]) -> Result<(), i32> {
+        // SAFETY: the handle is this machine's alone, and each pointer and its length are those of one slice.
+        match unsafe { p11_put_file(&mut self.handle, name.as_ptr(), name.len(), bytes.as_ptr(), bytes.len()) } {
+            0 => Ok(()),
+            status => Err(status),
+        }
+    }
+
     /// What a call hands out.
     fn handed(&mut self, call: Call) -> Result<Vec<u8>, i32> {
         let (mut out, mut length) = (Vec::new(), 0);
@@ -50,10 +77,20 @@ impl Machine {
         }
     }
 
-    fn line(&mut self, line: &str) -> Result<Vec<u8>, i32> {
+    /// The text of a line's answer, and the bytes that were typed.
+    fn line(&mut self, line: &str) -> Result<(Vec<u8>, Vec<u8>), i32> {
         // SAFETY: the handle is this machine's alone, and the pointer and the length are those of one slice.
         match unsafe { p11_line(&mut self.handle, line.as_ptr(), line.len()) } {
-            0 => self.handed(p11_answer),
+            0 => Ok((self.handed(p11_answer)?, self.handed(p11_typed_text)?)),
+            status => Err(status),
+        }
+    }
+
+    fn registers(&mut self) -> Result<Registers, i32> {
+        let mut registers = Registers::default();
+        // SAFETY: the handle is this machine's alone.
+        match unsafe { p11_regs(&mut self.handle, &mut registers) } {
+            0 => Ok(registers),
             status => Err(status),
         }
     }
@@ -66,12 +103,6 @@ impl Drop for Machine {
     }
 }
 
-/// The row of files.
-fn row(files: &[(&[u8], &[u8])]) -> Vec<u8> {
-    let parts = files.iter().flat_map(|(name, bytes)| [*name, *bytes]);
-    parts.flat_map(|part| [&(part.len() as u32).to_le_bytes(), part].concat()).collect()
-}
-
 /// The bytes at the front of a row, and what follows them.
 fn take(row: &[u8]) -> (&[u8], &[u8]) {
     let (length, rest) = row.split_at(4);
@@ -82,10 +113,17 @@ fn main() -> io::Result<()> {
     let paths: Vec<String> = env::args().collect();
     let tape = fs::read(&paths[1])?;
     let failed = |status: i32| io::Error::other(format!("status {status}"));
-    let mut machine = Machine::new(&row(&[(b"tape", &tape), (b"blank", b"")])).map_err(failed)?;
+    let mut machine = Machine::new(&[]).map_err(failed)?;
+    machine.put("tape", &tape).map_err(failed)?;
+    machine.put("blank", b"").map_err(failed)?;
+    let mut typed = Vec::new();
     for line in LINES {
-        io::stdout().write_all(&machine.line(line).map_err(failed)?)?;
+        let (answer, shown) = machine.line(line).map_err(failed)?;
+        io::stdout().write_all(&answer)?;
+        typed.extend(shown);
     }
+    io::stdout().write_all(&typed)?;
+    println!("R0 is {:06o}", machine.registers().map_err(failed)?.general[0]);
     let files = machine.handed(p11_files).map_err(failed)?;
     let mut row = &files[..];
     while !row.is_empty() {

@@ -19,7 +19,7 @@ enum {
     P11_DONE = 0,      /* the session is done; a refused line of the script has its refusal in the answers */
     P11_NO_MEMORY = 1, /* there is no memory for the machine, the files, the answers or the typed bytes */
     P11_BAD_SIZE = 2,  /* no machine has these sizes */
-    P11_BAD_FILES = 3, /* the bytes of the files are no row of files */
+    P11_BAD_FILES = 3, /* the bytes of the files are no row of files, or no row has a file of these lengths */
     P11_TOO_SMALL = 4, /* a buffer is too small: the lengths are told */
     P11_TOO_LONG = 5,  /* the script wasn't read to its end: it has 4,095,995,904 bytes or more */
     P11_NO_MACHINE = 6 /* the handle holds no machine */
@@ -96,6 +96,18 @@ int32_t p11_new(uint32_t kwords, uint32_t lines, const uint8_t *files, size_t fi
 P11_NONNULL
 int32_t p11_line(struct p11_handle *handle, const uint8_t *line, size_t length);
 
+/* Puts a file into the machine's store: from then on its name has these bytes, in the place of any that it had.
+ *
+ * name, name_length    the name by which mount and load find the file, in bytes; not ended by a 0
+ * bytes, bytes_length  what it holds, in bytes
+ *
+ * Both are copied. P11_DONE: the file stands behind the others (p11_files). P11_NO_MEMORY: there is no memory for the
+ * copy. P11_BAD_FILES: the name or the file has 4,294,967,296 bytes or more. At these two nothing changes, and at
+ * P11_NO_MACHINE nothing is done. The machine and the text of the last p11_line stay as they are. */
+P11_NONNULL
+int32_t p11_put_file(struct p11_handle *handle, const uint8_t *name, size_t name_length, const uint8_t *bytes,
+                     size_t bytes_length);
+
 /* Hands out the text of the last p11_line, as ./p11 writes it; not ended by a 0. None yet is a text of 0 bytes.
  *
  * P11_DONE: answer begins with the text, its other bytes are as they were, and answer_length is told the bytes of the
@@ -104,8 +116,41 @@ int32_t p11_line(struct p11_handle *handle, const uint8_t *line, size_t length);
 P11_NONNULL
 int32_t p11_answer(struct p11_handle *handle, uint8_t *answer, size_t answer_capacity, size_t *answer_length);
 
+/* Hands out the bytes that were typed on the terminal in the runs of the last p11_line (what the lines TTY of its text
+ * show), as they are; typed, typed_capacity and typed_length are for them what those of p11_answer are for the text. As
+ * p11_answer, and P11_NO_MEMORY: there is no memory for a copy of these bytes, and nothing is written. */
+P11_NONNULL
+int32_t p11_typed_text(struct p11_handle *handle, uint8_t *typed, size_t typed_capacity, size_t *typed_length);
+
+/* What the processor does between turns: the mark of p11_registers. */
+enum {
+    P11_READY = 0,   /* the next turn runs an instruction */
+    P11_WAITING = 1, /* a WAIT was run, and no service has ended it */
+    P11_HALTED = 2   /* the last turn has halted the machine */
+};
+
+/* What the lines regs and device show of the processor and of memory management. Words have 16 bits. */
+struct p11_registers {
+    uint64_t turns;      /* turns since the machine was made */
+    uint16_t general[6]; /* R0 to R5 */
+    uint16_t kernel_sp;  /* the stack pointer of kernel mode */
+    uint16_t user_sp;    /* the stack pointer of user mode */
+    uint16_t pc;         /* the program counter, R7 */
+    uint16_t status;     /* the processor status word */
+    uint16_t status_0;   /* SR0 of memory management */
+    uint16_t status_2;   /* SR2 of memory management */
+    uint16_t mark;       /* P11_READY, P11_WAITING or P11_HALTED */
+};
+
+/* Tells the machine's registers, with no effect on it; the text of the last p11_line stays too.
+ *
+ * P11_DONE: all fields of regs, which is the caller's, are written. P11_NO_MACHINE: nothing is written. */
+P11_NONNULL
+int32_t p11_regs(struct p11_handle *handle, struct p11_registers *regs);
+
 /* Hands out the machine's files, as a row of the form that p11_session takes: those that were given, and behind them
- * those that were saved. As p11_answer, and P11_NO_MEMORY: there is no memory for the row, and nothing is written. */
+ * those that were put or saved, in that order. As p11_answer, and P11_NO_MEMORY: there is no memory for the row, and
+ * nothing is written. */
 P11_NONNULL
 int32_t p11_files(struct p11_handle *handle, uint8_t *files_out, size_t files_capacity, size_t *files_length);
 

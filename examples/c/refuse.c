@@ -35,20 +35,33 @@ static const uint8_t script[] =
 static const uint8_t files[] = {1, 0, 0, 0, 'p', 1, 0, 0, 0, 7};
 static uint8_t out[4096], list[4 << 20];
 
+/* A call is done, or it found no memory or no machine, and the length is as it was. */
+static int is_handed(int status, size_t length) {
+    return status == P11_DONE || (length == 7 && (status == P11_NO_MEMORY || status == P11_NO_MACHINE));
+}
+
 /* A machine that is kept, whose lines are done while memory is refused: a line that is done or finds no memory leaves
- * it, and its answer is handed out without memory. */
+ * it, and its answer and its registers are handed out without memory. A file is put, or finds no memory and leaves the
+ * files. */
 static int keeps(void) {
     struct p11_handle machine = {0};
-    size_t text = 7, list_length = 7;
+    struct p11_registers regs;
+    size_t text = 7, typed = 7, list_length = 7;
     int good = 1, status = p11_new(28, 16, files, sizeof files, &machine);
     if (status != P11_DONE) good = status == P11_NO_MEMORY && machine.machines == 0;
+    int put = p11_put_file(&machine, files + 4, 1, script, 9);
+    good &= is_handed(put, 7);
     for (const char *line = (const char *)script; machine.machines && *line; line = strchr(line, '\n') + 1) {
         status = p11_line(&machine, (const uint8_t *)line, (size_t)(strchr(line, '\n') - line));
         good &= (status == P11_DONE || status == P11_NO_MEMORY) && machine.machines == 1;
-        good &= p11_answer(&machine, out, sizeof out, &text) == P11_DONE;
+        good &= p11_answer(&machine, out, sizeof out, &text) == P11_DONE && p11_regs(&machine, &regs) == P11_DONE;
+        typed = 7;
+        good &= is_handed(p11_typed_text(&machine, out, sizeof out, &typed), typed);
     }
     status = p11_files(&machine, list, sizeof list, &list_length);
-    good &= status == P11_DONE || (list_length == 7 && (status == P11_NO_MEMORY || status == P11_NO_MACHINE));
+    good &= is_handed(status, list_length);
+    int is_last = list_length > 15 && list[14] == 'p' && list[15] == 9;
+    if (status == P11_DONE) good &= is_last == (put == P11_DONE);
     p11_drop(&machine);
     return good && machine.machines == 0;
 }

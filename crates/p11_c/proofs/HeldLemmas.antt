@@ -9,12 +9,13 @@ use Rattle.p11_panel.specs.Session.{with_store, LineDoes, Runs, Did, Broke, text
 use Rattle.p11_panel.specs.Sizes.{Sizes, is_size, sizes_of}
 use Rattle.p11_c.specs.Calls.{Lent}
 use Rattle.p11_c.specs.Held.{Kept, Held, kept_of, new_kept}
-use Rattle.p11_c.specs.HeldCalls.{Plays, Stops, LinesEnd, HandsText, OnHeld, Opens}
-use Rattle.p11_c.specs.Rows.{IsRow, IsNoRow}
+use Rattle.p11_c.specs.HeldCalls.{Plays, Stops, LinesEnd, with_kept_file, PutsFile, HandsText, OnHeld, Opens}
+use Rattle.p11_c.specs.Rows.{Fits, IsRow, IsNoRow, file_of}
 use Rattle.p11_c.specs.Statuses.{number_of_status}
 use Rattle.p11_c.specs.declared.status.Status.{Status}
 use Rattle.p11_c.specs.declared.status.Status.TheVariants.{Done, NoMemory, BadSize, BadFiles, TooLong, NoMachine}
 use Rattle.p11_c.proofs.CallLemmas.{accepted_size, size_of}
+use Rattle.p11_c.proofs.StoreLemmas.{added}
 
 -- a writer in memory
 abbrev pub holds_text : List ℕ → WriterState
@@ -125,6 +126,13 @@ unfolding Opens
 opens_done kwords lines row sizes files kept sized is made held =
     let same : kept ≡ new_kept kwords files = made ∙ ap (λ (k : ℕ). new_kept k files) (size_of kwords lines sizes sized) in
     (accepted_size kwords lines sizes sized, (files, is, ap (λ (k : Kept). Some k) same))
+
+-- a file is put behind the others
+pub file_put : (name bytes : List ℕ) (kept kept' : Kept) → Fits (file_of name bytes) → kept' ≡ with_kept_file name bytes kept → PutsFile name bytes Done kept kept'
+unfolding PutsFile
+file_put name bytes kept kept' fits same =
+    let there = added kept.files kept'.files name bytes (ap (λ (k : Kept). k.files) same) in
+    (fits, same, (there.0, there.1, refl, refl))
 
 -- a call on what is held
 pub on_none : (Does : Kept → Status → Kept → Type 0) (Nothing : Type 0) (held held' : Held) (number : ℤ) → held ≡ None → number ≡ number_of_status NoMachine → held' ≡ None → Nothing → OnHeld Does Nothing held number held'

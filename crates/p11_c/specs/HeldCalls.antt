@@ -2,14 +2,16 @@
 use Rattle.std.specs.Prelude.{ℤ, ◌≡◌, ◌<◌, ◌≤◌, ◌⊎◌, ℕ, true, false, List, ◌∷◌, ◌++◌, length, None, Some}
 use Rattle.p11_lines.specs.declared.answer.Answer.{Answer}
 use Rattle.p11_lines.specs.AnswerText.{text_of}
-use Rattle.p11_panel.specs.Files.{NamedBytes, store_of}
+use Rattle.p11_panel.specs.Files.{NamedBytes, store_of, with_file}
 use Rattle.p11_panel.specs.Script.{ended_lines, script_lines}
 use Rattle.p11_panel.specs.Session.{SessionState, with_store, LineDoes, Runs, texts_of}
 use Rattle.p11_panel.specs.Sizes.{is_size}
-use Rattle.p11_c.specs.Calls.{Lent, holding, told_of}
+use Rattle.p11_panel.specs.Store.{Puts}
+use Rattle.p11_c.specs.Calls.{Lent, holding, told_of, unrefused}
 use Rattle.p11_c.specs.Held.{Kept, Held, new_kept}
-use Rattle.p11_c.specs.Rows.{IsRow, IsNoRow}
+use Rattle.p11_c.specs.Rows.{Fits, IsRow, IsNoRow, file_of}
 use Rattle.p11_c.specs.Statuses.{number_of_status}
+use Rattle.p11_c.specs.Typed.{typed_in}
 use Rattle.p11_c.specs.declared.status.Status.{Status}
 use Rattle.p11_c.specs.declared.status.Status.TheVariants.{Done, NoMemory, BadSize, BadFiles, TooSmall, TooLong, NoMachine}
 
@@ -72,6 +74,26 @@ HandsText NoMachine text out out' = ⊥
 abbrev pub HandsFiles : Status → List NamedBytes → Lent → Lent → Type 0
 HandsFiles status files out out' =
     ((row : List ℕ) × IsRow row files × HandsText status row out out') ⊎ ((status ≡ NoMemory) × (out' ≡ out))
+
+-- the typed bytes that the text shows are handed out, or there is no memory for them and nothing is written
+abbrev pub HandsTyped : Status → List ℕ → Lent → Lent → Type 0
+HandsTyped status text out out' = HandsText status (typed_in text) out out' ⊎ ((status ≡ NoMemory) × (out' ≡ out))
+
+-- one more file is kept, behind the others
+abbrev pub with_kept_file : List ℕ → List ℕ → Kept → Kept
+with_kept_file name bytes kept = record kept { files = (with_file name bytes (unrefused kept.files)).files }
+
+-- A file is put, by the status. Done, it is kept behind the others, and so, as of any store, its name has its bytes, and
+-- each other name what it had. Bad, its lengths are too large for a row of files. Where it isn't done, nothing changes.
+unfoldable pub PutsFile : List ℕ → List ℕ → Status → Kept → Kept → Type 0
+PutsFile name bytes Done kept kept' = Fits (file_of name bytes) × (kept' ≡ with_kept_file name bytes kept)
+    × Puts (store_of (unrefused kept.files)) name bytes (store_of (unrefused kept'.files))
+PutsFile name bytes NoMemory kept kept' = Fits (file_of name bytes) × (kept' ≡ kept)
+PutsFile name bytes BadFiles kept kept' = (Fits (file_of name bytes) → ⊥) × (kept' ≡ kept)
+PutsFile name bytes BadSize kept kept' = ⊥
+PutsFile name bytes TooSmall kept kept' = ⊥
+PutsFile name bytes TooLong kept kept' = ⊥
+PutsFile name bytes NoMachine kept kept' = ⊥
 
 -- what a call does where a machine is held; where none is, it says so and does nothing
 unfoldable pub OnHeld : (Kept → Status → Kept → Type 0) → Type 0 → Held → ℤ → Held → Type 0

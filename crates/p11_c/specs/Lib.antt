@@ -1,6 +1,7 @@
 pub mod Calls
 pub mod Held
 pub mod HeldCalls
+pub mod Registers
 pub mod Rows
 pub mod Slots
 pub mod Statuses

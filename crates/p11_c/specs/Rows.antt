@@ -3,6 +3,10 @@ use Rattle.std.specs.Prelude.{◌≡◌, ℕ, ◌/◌, ◌%◌, ◌^◌, ◌<◌
 use Rattle.std.specs.List.{All, flat_map}
 use Rattle.p11_panel.specs.Files.{NamedBytes}
 
+-- a file, by its name
+abbrev pub file_of : List ℕ → List ℕ → NamedBytes
+file_of name bytes = record { name = name; bytes = bytes }
+
 -- a number in 4 bytes, the lowest first
 unfoldable pub number_bytes : ℕ → List ℕ
 number_bytes number =

@@ -2,12 +2,14 @@
 ghost use Rattle.std.specs.Prelude.{◌≡◌, ◌<◌, ℕ, List, IfOk};
 ghost use Rattle.std.specs.List.{All};
 ghost use Rattle.p11_c.specs.Held.{kept_of, new_kept};
-ghost use Rattle.p11_c.specs.HeldCalls.{LinesEnd};
+ghost use Rattle.p11_c.specs.HeldCalls.{LinesEnd, PutsFile};
+ghost use Rattle.p11_c.specs.Registers.{told_registers};
 ghost use Rattle.p11_c.specs.Rows.{Fits, IsRow};
 
+use crate::registers::{Registers, tell_registers};
 use crate::rows::write_row;
 use crate::status::Status;
-use crate::store::{RowStore, StoredFile};
+use crate::store::{RowStore, StoredFile, add_file, fits};
 use p11_panel::{Config, NoMemory, Panel, SessionFault, StdReader, StdWriter, session};
 use std::alloc::{AllocError, Global};
 use std::marker::{Brand, Model};
@@ -122,6 +124,28 @@ impl Desk {
         self.files = files;
         self.answer = text;
         status
+    }
+
+    /// Puts a file into the store, in the place of any file of its name.
+    #[tactic(auto, unfolding(crate::specs::HeldCalls::PutsFile))]
+    pub(crate) fn put_file(&mut self, alloc: Global, name: &[u8], bytes: &[u8]) -> Status
+        ensures { PutsFile name.now bytes.now result self.old self.new }
+    {
+        if !fits(name, bytes) {
+            return Status::BadFiles;
+        }
+        let Ok(()) = add_file(alloc, &mut self.files, name, bytes) else {
+            return Status::NoMemory;
+        };
+        Status::Done
+    }
+
+    /// The registers of the machine.
+    pub(crate) fn registers(&mut self, alloc: Global) -> Registers
+        ensures value { result ≡ told_registers self.old.machine }
+        ensures state { self.new ≡ self.old }
+    {
+        tell_registers(alloc, &mut self.panel)
     }
 
     /// The text of the last answers.

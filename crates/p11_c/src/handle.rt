@@ -2,12 +2,13 @@
 ghost use Rattle.std.specs.Prelude.{◌≡◌, ◌≤◌, None, Some, IfOk, IfErr, MatchOption};
 ghost use Rattle.p11_c.specs.Calls.{lent};
 ghost use Rattle.p11_c.specs.Held.{Held, machines_of};
-ghost use Rattle.p11_c.specs.HeldCalls.{HandsText, HandsFiles, Opens};
+ghost use Rattle.p11_c.specs.HeldCalls.{HandsText, HandsTyped, HandsFiles, Opens};
 
 use crate::desk::Desk;
 use crate::rows::read_row;
 use crate::slot::Slot;
 use crate::status::Status;
+use crate::typed::typed_bytes;
 use p11_panel::Config;
 use std::alloc::Global;
 use std::mem::replace;
@@ -107,6 +108,21 @@ pub(crate) fn hand_text(text: &[u8], out: &mut [u8], out_length: &mut usize) -> 
     }
     out[..text.len()].copy_from_slice(text);
     Status::Done
+}
+
+/// Copies the typed bytes that a text shows into the caller's buffer, if that has room for them; it is told the length.
+pub(crate) fn hand_typed(
+    alloc: Global,
+    text: &[u8],
+    out: &mut [u8],
+    out_length: &mut usize,
+) -> Status
+    ensures { HandsTyped result text.now (lent out.old out_length.old) (lent out.new out_length.new) }
+{
+    match typed_bytes(alloc, text) {
+        Ok(typed) => hand_text(typed.as_slice(), out, out_length),
+        Err(_) => Status::NoMemory,
+    }
 }
 
 /// Copies the row of a machine's files into the caller's buffer, if that has room for it; it is told the length.

@@ -4,7 +4,8 @@
 
 ghost use Rattle.std.specs.Prelude.{◌≡◌, ⊤, List, ℕ, None};
 ghost use Rattle.p11_c.specs.Calls.{Ends, asked_for, lent};
-ghost use Rattle.p11_c.specs.HeldCalls.{OnHeld, LinesEnd, HandsText, HandsFiles, Opens};
+ghost use Rattle.p11_c.specs.HeldCalls.{OnHeld, LinesEnd, PutsFile, HandsText, HandsTyped, HandsFiles, Opens};
+ghost use Rattle.p11_c.specs.Registers.{told_registers};
 ghost use Rattle.p11_c.specs.Statuses.{number_of_status};
 ghost use Rattle.p11_c.specs.Typed.{typed_in};
 ghost use Rattle.p11_c.specs.declared.status.Status.{Status};
@@ -12,6 +13,7 @@ ghost use Rattle.p11_c.specs.declared.status.Status.{Status};
 mod desk;
 mod handle;
 mod loose;
+mod registers;
 mod rows;
 mod session;
 mod slot;
@@ -19,7 +21,8 @@ mod status;
 mod store;
 mod typed;
 
-use crate::handle::{Handle, hand_files, hand_text, new_desk};
+use crate::handle::{Handle, hand_files, hand_text, hand_typed, new_desk};
+use crate::registers::Registers;
 use crate::session::{hand_out, play, play_typed};
 use crate::status::Status;
 pub use rows::rows_read_back;
@@ -132,6 +135,26 @@ pub extern "C" fn p11_line(alloc: Global, handle: &mut Handle, line: &[u8]) -> i
     status.number()
 }
 
+/// Puts a file into the store of the machine that the handle holds: its name has these bytes from then on, in the place
+/// of any that it had.
+///
+/// # Errors
+///
+/// The number of a `Status`: `BadFiles` for a name or bytes that no row of files has, then `NoMemory`. Nothing changes
+/// then.
+#[unsafe(no_mangle)]
+pub extern "C" fn p11_put_file(alloc: Global, handle: &mut Handle, name: &[u8], bytes: &[u8]) -> i32
+    ensures { OnHeld (λ kept status kept'. PutsFile name.now bytes.now status kept kept') ⊤
+        handle.old.slot.held result handle.new.slot.held }
+{
+    let Some(mut desk) = handle.take(alloc) else {
+        return Status::NoMachine.number();
+    };
+    let status = desk.put_file(alloc, name, bytes);
+    handle.put(desk);
+    status.number()
+}
+
 /// Hands out the text of the last line's answers.
 ///
 /// # Errors
@@ -155,6 +178,50 @@ pub extern "C" fn p11_answer(
     let status = hand_text(desk.answer(), answer, answer_length);
     handle.put(desk);
     status.number()
+}
+
+/// Hands out, of the text of the last line's answers, the bytes that were typed on the terminal, as they are.
+///
+/// # Errors
+///
+/// The number of a `Status`. Too small a buffer is told with the length that is wanted, and nothing else is written.
+#[unsafe(no_mangle)]
+pub extern "C" fn p11_typed_text(
+    alloc: Global,
+    handle: &mut Handle,
+    typed: &mut [u8],
+    typed_length: &mut usize,
+) -> i32
+    ensures { OnHeld (λ kept status kept'. (kept' ≡ kept) × HandsTyped status kept.answer
+        (lent typed.old typed_length.old) (lent typed.new typed_length.new))
+        (lent typed.new typed_length.new ≡ lent typed.old typed_length.old)
+        handle.old.slot.held result handle.new.slot.held }
+{
+    let Some(desk) = handle.take(alloc) else {
+        return Status::NoMachine.number();
+    };
+    let status = hand_typed(alloc, desk.answer(), typed, typed_length);
+    handle.put(desk);
+    status.number()
+}
+
+/// Tells the registers of the machine that the handle holds.
+///
+/// # Errors
+///
+/// The number of a `Status`, and nothing is written.
+#[unsafe(no_mangle)]
+pub extern "C" fn p11_regs(alloc: Global, handle: &mut Handle, regs: &mut Registers) -> i32
+    ensures { OnHeld (λ kept status kept'. (status ≡ Status.Done) × (kept' ≡ kept)
+        × (regs.new ≡ told_registers kept.machine))
+        (regs.new ≡ regs.old) handle.old.slot.held result handle.new.slot.held }
+{
+    let Some(mut desk) = handle.take(alloc) else {
+        return Status::NoMachine.number();
+    };
+    *regs = desk.registers(alloc);
+    handle.put(desk);
+    Status::Done.number()
 }
 
 /// Hands out the row of the machine's files.

@@ -14,7 +14,7 @@ pub enum Status {
     NoMemory,
     /// A machine can't have these sizes.
     BadSize,
-    /// The bytes of the files are no row of files.
+    /// The bytes of the files are no row of files, or no row has a file as long as this one.
     BadFiles,
     /// A buffer has no room for what is handed out.
     TooSmall,

@@ -1,10 +1,10 @@
 // A store of files in memory, which can be written as a row.
-ghost use Rattle.std.specs.Prelude.{◌≡◌, ◌+◌, ◌∷◌, ◌++◌, [], ◌<◌, ◌^◌, None, Some, OnOk, OnErr, IfOk, IsTrue, ◌↔◌};
-ghost use Rattle.std.specs.Prelude.{length, option_copied};
+ghost use Rattle.std.specs.Prelude.{◌≡◌, ◌+◌, ◌∷◌, ◌++◌, [], ◌<◌, None, Some, OnOk, OnErr, IfOk, IsTrue, ◌↔◌};
+ghost use Rattle.std.specs.Prelude.{option_copied};
 ghost use Rattle.std.specs.List.{All};
 ghost use Rattle.p11_panel.specs.Files.{bytes_under, with_file};
 ghost use Rattle.p11_c.specs.Calls.{unrefused};
-ghost use Rattle.p11_c.specs.Rows.{Fits};
+ghost use Rattle.p11_c.specs.Rows.{Fits, file_of};
 
 use p11_panel::{Refusals, Store, StoreError};
 use std::alloc::{AllocError, Allocator, Global};
@@ -29,7 +29,7 @@ impl<A: Allocator> Model for StoredFile<A> {
 impl<A: Allocator + Copy> StoredFile<A> {
     /// A copy of these bytes, with a copy of this name.
     pub(crate) fn new(alloc: A, name: &[u8], bytes: &[u8]) -> Result<Self, AllocError>
-        ensures { IfOk result (λ f. f ≡ record { name = name.now; bytes = bytes.now }) }
+        ensures { IfOk result (λ f. f ≡ file_of name.now bytes.now) }
     {
         let name = Vec::from_slice(alloc, name)?;
         let bytes = Vec::from_slice(alloc, bytes)?;
@@ -49,6 +49,21 @@ impl<A: Allocator> StoredFile<A> {
     {
         self.bytes.as_slice()
     }
+}
+
+/// Keeps one more file, behind the others.
+pub(crate) fn add_file<A: Allocator + Copy>(
+    alloc: A,
+    files: &mut Vec<StoredFile<A>, A>,
+    name: &[u8],
+    bytes: &[u8],
+) -> Result<(), AllocError>
+    ensures ok { OnOk result (files.new.items ≡ files.old.items ++ file_of name.now bytes.now ∷ []) }
+    ensures err { OnErr result (files.new.items ≡ files.old.items) }
+{
+    let file = StoredFile::new(alloc, name, bytes)?;
+    files.push(file)?;
+    Ok(())
 }
 
 /// The last bytes under a name.
@@ -128,12 +143,11 @@ impl<L: Ledger, A: Allocator + Copy> RowStore<L, A> {
 
     /// Keeps one more file.
     fn add(&mut self, name: &[u8], bytes: &[u8]) -> Result<(), AllocError>
-        requires { Fits (record { name = name.now; bytes = bytes.now }) }
+        requires { Fits (file_of name.now bytes.now) }
         ensures ok { OnOk result (self.new ≡ with_file name.now bytes.now self.old) }
         ensures err { OnErr result (self.new ≡ self.old) }
     {
-        let file = StoredFile::new(self.alloc, name, bytes)?;
-        self.files.push(file)?;
+        add_file(self.alloc, &mut self.files, name, bytes)?;
         Ok(())
     }
 
@@ -147,11 +161,11 @@ impl<L: Ledger, A: Allocator + Copy> RowStore<L, A> {
     }
 }
 
-/// Whether the length of some bytes is a number of 4 bytes.
-fn fits(bytes: &[u8]) -> bool
-    ensures { IsTrue result ↔ (length bytes.now < 2 ^ 32) }
+/// Whether the lengths of a file's name and of its bytes are numbers of 4 bytes.
+pub(crate) fn fits(name: &[u8], bytes: &[u8]) -> bool
+    ensures { IsTrue result ↔ Fits (file_of name.now bytes.now) }
 {
-    bytes.len() < 1 << 32
+    name.len() < 1 << 32 && bytes.len() < 1 << 32
 }
 
 impl<L: Ledger, A: Allocator + Copy> Store for RowStore<L, A> {
@@ -170,7 +184,7 @@ impl<L: Ledger, A: Allocator + Copy> Store for RowStore<L, A> {
     }
 
     fn put(&mut self, name: &[u8], bytes: &[u8]) -> Result<(), StoreError> {
-        if !fits(name) || !fits(bytes) {
+        if !fits(name, bytes) {
             return Err(self.refuse());
         }
         match self.add(name, bytes) {

@@ -1,0 +1,90 @@
+// The registers as C sees them.
+ghost use Rattle.std.specs.Prelude.{◌≡◌};
+ghost use Rattle.p11_cpu.specs.OperatorDevices.{status_0_of, status_2_of};
+ghost use Rattle.p11_panel.specs.Shown.{registers_of};
+ghost use Rattle.p11_c.specs.Registers.{number_of_mark, told_registers};
+
+use p11_panel::{Answer, Command, ManagementRegisters, Mark, Panel};
+use std::alloc::Global;
+
+/// The registers and status words of the processor and of memory management, between turns.
+#[repr(C)]
+#[derive(Clone, Copy, Debug, PartialEq, Eq)]
+pub struct Registers {
+    /// The turns since the machine was made.
+    pub turns: u64,
+    /// R0 to R5.
+    pub general: [u16; 6],
+    /// The stack pointer of kernel mode.
+    pub kernel_sp: u16,
+    /// The stack pointer of user mode.
+    pub user_sp: u16,
+    /// R7, the program counter.
+    pub pc: u16,
+    /// The processor status word.
+    pub status: u16,
+    /// SR0 of memory management: whether addresses are mapped, and what an abort kept of itself.
+    pub status_0: u16,
+    /// SR2 of memory management: the address of the instruction.
+    pub status_2: u16,
+    /// What the processor does between turns: 0 if it is ready, 1 if it waits, 2 if it has halted.
+    pub mark: u16,
+}
+
+/// The number by which C knows what the processor does between turns.
+#[tactic(auto, unfolding(crate::specs::Registers::number_of_mark))]
+fn number_of_mark(mark: Mark) -> u16
+    ensures { result ≡ number_of_mark mark }
+{
+    match mark {
+        Mark::Ready => 0,
+        Mark::Waiting => 1,
+        Mark::Halted => 2,
+    }
+}
+
+/// What REGS shows.
+fn shown_registers(alloc: Global, panel: &mut Panel) -> p11_panel::Registers
+    ensures value { result ≡ registers_of panel.old }
+    ensures state { panel.new ≡ panel.old }
+{
+    match panel.act(alloc, &Command::Regs) {
+        Answer::Registers(shown) => shown,
+        _ => unreachable!(),
+    }
+}
+
+/// What DEVICE shows of memory management.
+#[tactic(auto, unfolding(p11_panel::specs::Shown::shown_devices))]
+fn shown_management(alloc: Global, panel: &mut Panel) -> ManagementRegisters
+    ensures status_0 { result.status_0 ≡ status_0_of panel.old }
+    ensures status_2 { result.status_2 ≡ status_2_of panel.old }
+    ensures state { panel.new ≡ panel.old }
+{
+    match panel.act(alloc, &Command::Device) {
+        Answer::Devices(shown) => shown.management,
+        _ => unreachable!(),
+    }
+}
+
+/// The registers of a machine, which stays as it is.
+#[tactic(auto, unfolding(crate::specs::Registers::told_registers))]
+pub(crate) fn tell_registers(alloc: Global, panel: &mut Panel) -> Registers
+    ensures value { result ≡ told_registers panel.old }
+    ensures state { panel.new ≡ panel.old }
+{
+    let shown = shown_registers(alloc, panel);
+    let management = shown_management(alloc, panel);
+    let general = shown.general;
+    Registers {
+        turns: shown.turns,
+        general,
+        kernel_sp: shown.kernel_sp,
+        user_sp: shown.user_sp,
+        pc: shown.pc,
+        status: shown.status,
+        status_0: management.status_0,
+        status_2: management.status_2,
+        mark: number_of_mark(shown.mark),
+    }
+}
