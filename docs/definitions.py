@@ -1,5 +1,5 @@
-"""The definitions of crates/*/specs/*.antt as docs/believe counts them and docs/book shows them, and those that the
-headline reaches.
+"""The definitions of crates/*/specs as docs/believe counts them and docs/book shows them, and those that the headline
+reaches.
 
 It begins at the names in the clauses of `play` and of `session`, and at the record `State` that the model of a machine
 is; then it goes to every definition that one of these names, by the `use` lines of its file, and so on. Types that are
@@ -53,13 +53,13 @@ class Sources:
 
     def __init__(self):
         self.lines, self.texts, self.scopes, self.types, self.type_texts = {}, {}, {}, {}, {}
-        for path in sorted(glob.glob(os.path.join(CRATES, "*", "specs", "*.antt"))):
+        for path in sorted(glob.glob(os.path.join(CRATES, "*", "specs", "**", "*.antt"), recursive=True)):
             self.read_definitions(path)
         for path in sorted(glob.glob(os.path.join(CRATES, "*", "src", "**", "*.rt"), recursive=True)):
             self.read_types(path)
 
     def read_definitions(self, path):
-        crate, module = crate_of(path), os.path.splitext(os.path.basename(path))[0]
+        crate, module = crate_of(path), module_of(path)
         with open(path, encoding="utf-8") as file:
             read = [line.rstrip() for line in file]
         local, now, record_at, waiting, above = {}, None, None, [], []
@@ -120,7 +120,7 @@ class Sources:
         if parts[2] == "declared":
             kind = ("type", parts[0], [part for part in parts if part != "TheVariants"][-1])
             return kind if kind in self.types else None
-        key = Key(parts[0], parts[2], name)
+        key = Key(parts[0], ".".join(parts[2:]), name)
         return key if key in self.lines else None
 
     def named(self, text, scope):
@@ -183,6 +183,11 @@ class Sources:
 
 def crate_of(path):
     return os.path.relpath(path, CRATES).split(os.sep)[0]
+
+
+def module_of(path):
+    """A file's module: `Turns`, or `Kept.View` for specs/Kept/View.antt."""
+    return ".".join(os.path.splitext(os.path.relpath(path, CRATES))[0].split(os.sep)[2:])
 
 
 def by_play(sources):

@@ -4,7 +4,8 @@ use Rattle.std.proofs.lemmas.Bool.Decides.{nat_tests}
 use Rattle.std.proofs.lemmas.Int.{ints, quot-rem, rem_below, unsigned_abs-mul}
 use Rattle.std.proofs.Math.IntN.{ℤ_ind, suc_ℤ, pred_ℤ, suc_ℤ-*ℤ, pred_ℤ-*ℤ, zero-*ℤ, suc_ℤ-+ℤ, pred_ℤ-+ℤ, +ℤ_idl, +ℤ_one, -ℤ_one, -ℤ-+ℤ_cancel}
 use Rattle.p11_alu.specs.declared.quotient.Quotient.{Quotient}
-use Rattle.p11_alu.specs.Products.{IsQuotient, answer_with}
+use Rattle.p11_alu.specs.Calls.Quotients.{IsQuotient}
+use Rattle.p11_alu.specs.Products.{answer_with}
 
 -- ---- there is one
 

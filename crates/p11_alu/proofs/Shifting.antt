@@ -13,7 +13,7 @@ use Rattle.p11_alu.specs.Pairs.{number_of, pair_of, pair_value}
 use Rattle.p11_alu.specs.Products.{fits_word}
 use Rattle.p11_alu.specs.Shifts.{sign_of, exclusive_or, left_once, right_once}
 use Rattle.p11_alu.specs.CountedShifts.{Shifting, start_of, step_left, step_right, times, shifted_by, count_of, ash_of, ashc_of}
-use Rattle.p11_alu.specs.ShiftsAtOnce.{is_odd, fits_pair, number_at_once, out_at_once}
+use Rattle.p11_alu.specs.Calls.ShiftsAtOnce.{is_odd, fits_pair, number_at_once, out_at_once}
 use Rattle.p11_alu.proofs.Powers.{times_one, twice, halved_none, halved_more}
 
 -- a word of 16 bits, or a pair of 32

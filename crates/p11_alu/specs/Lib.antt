@@ -4,4 +4,4 @@ pub mod Pairs
 pub mod Products
 pub mod Results
 pub mod Shifts
-pub mod ShiftsAtOnce
+pub mod Calls

@@ -1,5 +1,5 @@
 -- Words and bytes as whole numbers.
-use Rattle.std.specs.Prelude.{ℕ, ◌-◌, ◌*◌, ◌%◌, ◌<◌, ℤ, pos, negsuc, ◌-ℤ◌, nat_lt, if◌then◌else◌}
+use Rattle.std.specs.Prelude.{ℕ, ◌-◌, ◌*◌, ◌%◌, ℤ, pos, negsuc, ◌-ℤ◌, nat_lt, if◌then◌else◌}
 use Rattle.p11_alu.specs.declared.size.Size.{Size}
 use Rattle.p11_alu.specs.declared.size.Size.TheVariants.{Word, Byte}
 
@@ -12,10 +12,6 @@ sign_weight Byte = 128
 abbrev pub modulus : Size → ℕ
 modulus Word = 65536
 modulus Byte = 256
-
--- the number fits the size
-abbrev pub Fits : Size → ℕ → Type 0
-Fits size n = n < modulus size
 
 -- the unsigned value: a byte instruction looks at the low byte alone
 abbrev pub val : Size → ℕ → ℕ

@@ -1,5 +1,5 @@
 -- Products and quotients of signed numbers.
-use Rattle.std.specs.Prelude.{ℕ, ◌≡◌, ◌<◌, ◌==◌, ◌⊎◌, Bool, not, ◌&&◌, true, false, ℤ, pos, neg_ℤ, ◌+ℤ◌, ◌*ℤ◌, int_lt, int_le, int_div, int_rem, unsigned_abs, if◌then◌else◌}
+use Rattle.std.specs.Prelude.{ℕ, ◌==◌, Bool, not, ◌&&◌, true, false, ℤ, pos, neg_ℤ, ◌*ℤ◌, int_lt, int_le, int_div, int_rem, if◌then◌else◌}
 use Rattle.std.specs.Ordering.{int_eq}
 use Rattle.p11_alu.specs.declared.size.Size.TheVariants.{Word}
 use Rattle.p11_alu.specs.declared.codes.Codes.{Codes}
@@ -24,13 +24,6 @@ mul_of a b =
         c = not (fits_word product);
       },
     )
-
--- q and r are the quotient and the remainder of a by d: q times d and r make a, r is nearer to 0
--- than d, and r is 0 or has the sign of a.
-pub record IsQuotient (a d q r : ℤ) : Type 0 where
-  pub whole : q *ℤ d +ℤ r ≡ a
-  pub small : unsigned_abs r < unsigned_abs d
-  pub sign : (r ≡ pos 0) ⊎ (int_lt r (pos 0) ≡ int_lt a (pos 0))
 
 -- No quotient is stored: V set, N and Z 0.
 abbrev pub answer_without : Bool → Quotient

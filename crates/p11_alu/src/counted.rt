@@ -1,7 +1,7 @@
 ghost use Rattle.std.specs.Prelude.{◌≡◌, ◌<◌, ◌≤◌, ◌+◌, ◌-◌, ◌^◌, pos, neg_ℤ, ◌≤ℤ◌, ◌<ℤ◌, ◌*ℤ◌};
 ghost use Rattle.std.specs.Int.{int_shr};
 ghost use Rattle.p11_alu.specs.CountedShifts.{ash_of, ashc_of, count_of};
-ghost use Rattle.p11_alu.specs.ShiftsAtOnce.{is_odd, fits_pair, number_at_once, out_at_once};
+ghost use Rattle.p11_alu.specs.Calls.ShiftsAtOnce.{is_odd, fits_pair, number_at_once, out_at_once};
 
 use crate::codes::Codes;
 use crate::pair::{Pair, signed_pair, unsigned_pair};

@@ -1,7 +1,8 @@
 ghost use Rattle.std.specs.Prelude.{◌≡◌, ◌≢◌, true, ℤ, pos, neg_ℤ, ◌≤ℤ◌, ◌<ℤ◌, ◌*ℤ◌, int_div, int_rem};
 ghost use Rattle.p11_alu.specs.Numbers.{sval, wrapped};
 ghost use Rattle.p11_alu.specs.Pairs.{pair_of, pair_value};
-ghost use Rattle.p11_alu.specs.Products.{fits_word, mul_of, div_of, answer_with, answer_without, IsQuotient};
+ghost use Rattle.p11_alu.specs.Products.{fits_word, mul_of, div_of, answer_with, answer_without};
+ghost use Rattle.p11_alu.specs.Calls.Quotients.{IsQuotient};
 
 use crate::codes::Codes;
 use crate::pair::{Pair, pair_from, signed_pair};

@@ -3,10 +3,10 @@ use Rattle.std.proofs.Common.{◌≡◌, ◌⊎◌, ℕ, ℤ, true, false, List,
 use Rattle.std.specs.Io.KnownBytes.{Appends, Consumes, IsAtEnd}
 use Rattle.p11_lines.specs.Writers.{WriterState}
 use Rattle.p11_cpu.specs.State.{State}
-use Rattle.p11_panel.specs.Files.{NamedBytes, MemoryFiles, store_of}
+use Rattle.p11_panel.specs.Calls.Files.{NamedBytes, MemoryFiles, store_of}
 use Rattle.p11_panel.specs.Script.{ended_lines, script_lines}
 use Rattle.p11_panel.specs.Session.{with_store, LineDoes, Runs, Did, Broke, texts_of}
-use Rattle.p11_panel.specs.Sizes.{Sizes, is_size, sizes_of}
+use Rattle.p11_panel.specs.Calls.Sizes.{Sizes, is_size, sizes_of}
 use Rattle.p11_c.specs.Calls.{Lent}
 use Rattle.p11_c.specs.Held.{Kept, Held, kept_of, new_kept}
 use Rattle.p11_c.specs.HeldCalls.{Plays, Stops, LinesEnd, with_kept_file, PutsFile, HandsText, OnHeld, Opens}

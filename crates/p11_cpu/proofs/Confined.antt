@@ -1,7 +1,8 @@
 -- What a user program may have changed since a hardware, and what it means that a step keeps to that.
 use Rattle.std.proofs.Common.{◌≡◌, ℕ, ◌<◌, Bool, true, false, cond, map, length}
 use Rattle.std.specs.Prelude.{None, Result, Ok, Err}
-use Rattle.p11_kt11.specs.Laws.{UserAddressesHave16Bits, UserStaysOffIoPage, UserTranslationKeeps, UserTranslationKeepsTheReach}
+use Rattle.p11_kt11.specs.IoPage.{UserStaysOffIoPage}
+use Rattle.p11_kt11.specs.Laws.Translations.{UserAddressesHave16Bits, UserTranslationKeeps, UserTranslationKeepsTheReach}
 use Rattle.p11_kt11.specs.Management.{Management}
 use Rattle.p11_kt11.specs.Page.{unwritten_page}
 use Rattle.p11_kt11.specs.Registers as registers

@@ -5,7 +5,7 @@ use Rattle.std.proofs.lemmas.Grind.{common_steps}
 use Rattle.std.specs.Prelude.{Option, Some, None, Result, Ok, Err}
 use Rattle.p11_decode.specs.declared.operand.Size.{Size}
 use Rattle.p11_decode.specs.declared.operand.Size.TheVariants.{Word, Byte}
-use Rattle.p11_kt11.specs.Laws.{KeepsAllButSr0, KeepsAllButUserW}
+use Rattle.p11_kt11.specs.Laws.Translations.{KeepsAllButSr0, KeepsAllButUserW}
 use Rattle.p11_kt11.specs.Management.{Management}
 use Rattle.p11_kt11.specs.Registers as management
 use Rattle.p11_kt11.specs.Translation.{place, translate_of}

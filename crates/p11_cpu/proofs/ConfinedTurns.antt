@@ -5,7 +5,7 @@ use Rattle.std.specs.Prelude.{Option, Some, None, Result, Ok, Err}
 use Rattle.p11_decode.specs.Table.{op_of}
 use Rattle.p11_decode.specs.declared.operand.Register.TheVariants.{Pc}
 use Rattle.p11_decode.specs.declared.operand.Size.TheVariants.{Word}
-use Rattle.p11_kt11.specs.Laws.{UserStaysOffIoPage}
+use Rattle.p11_kt11.specs.IoPage.{UserStaysOffIoPage}
 use Rattle.p11_kt11.specs.Management.{Management, management_after_begin_instruction, page_at}
 use Rattle.p11_kt11.specs.Page.{unwritten_page}
 use Rattle.p11_kt11.specs.Reference.{any_cause}
@@ -23,7 +23,8 @@ use Rattle.p11_unibus.specs.Requests.{grant_of, granted, highest_request}
 use Rattle.p11_unibus.specs.State.{BusState}
 use Rattle.p11_unibus.specs.declared.source.Source.{Source}
 use Rattle.p11_cpu.specs.declared.trap.Trap.{Trap}
-use Rattle.p11_cpu.specs.Confinement.{IsConfining, IsReached, UserTurnIsConfined, UserTurnKeepsConfining, acted_next, after_devices, begins_service, granted_next, is_followed, serves}
+use Rattle.p11_cpu.specs.Confinement.{IsConfining, IsReached, acted_next, after_devices, begins_service, granted_next, is_followed, serves}
+use Rattle.p11_cpu.specs.Laws.Confined.{UserTurnIsConfined, UserTurnKeepsConfining}
 use Rattle.p11_cpu.specs.Instructions.{may_trace}
 use Rattle.p11_cpu.specs.Registers.{register_of}
 use Rattle.p11_cpu.specs.State.{HardwareState, Processor, State, hardware_of, with_bus_of}

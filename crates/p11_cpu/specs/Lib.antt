@@ -1,8 +1,6 @@
 pub mod Words
 pub mod State
 pub mod Prepared
-pub mod Agreement
-pub mod Decoded
 pub mod Step
 pub mod Registers
 pub mod References
@@ -16,8 +14,8 @@ pub mod PreviousSpace
 pub mod Instructions
 pub mod Services
 pub mod Turns
-pub mod Quiet
 pub mod Operator
 pub mod OperatorDevices
-pub mod WellFormed
 pub mod Confinement
+pub mod Kept
+pub mod Laws

@@ -1,7 +1,7 @@
 //! The packs on the drives.
 ghost use Rattle.std.specs.Prelude.{◌≡◌, ◌<◌, false, true, is_some, option_copied};
 ghost use Rattle.p11_rk11.specs.State.{contents_of, drive_count, drive_of, is_busy};
-ghost use Rattle.p11_rk11.specs.View.{contents_lent};
+ghost use Rattle.p11_rk11.specs.Kept.View.{contents_lent};
 ghost use Rattle.p11_unibus.specs.Events.{bus_after_mount, bus_after_unmount};
 ghost use Rattle.p11_cpu.specs.State.{with_bus};
 

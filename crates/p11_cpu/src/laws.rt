@@ -1,6 +1,6 @@
 //! What holds of the definitions of a turn, each a function that does nothing, whose contract is the law.
 ghost use Rattle.std.specs.Prelude.{◌≡◌, length};
-ghost use Rattle.p11_cpu.specs.Confinement.{UserTurnIsConfined, UserTurnKeepsConfining};
+ghost use Rattle.p11_cpu.specs.Laws.Confined.{UserTurnIsConfined, UserTurnKeepsConfining};
 ghost use Rattle.p11_cpu.specs.State.{State};
 ghost use Rattle.p11_cpu.specs.Turns.{turn_of};
 

@@ -7,7 +7,7 @@ use Rattle.p11_lines.specs.declared.answer.Answer.{Answer}
 use Rattle.p11_lines.specs.declared.answer.Answer.TheVariants as answers
 use Rattle.p11_lines.specs.declared.line.Line.{Line}
 use Rattle.p11_lines.specs.declared.line.Line.TheVariants as lines
-use Rattle.p11_lines.specs.LineText.{line_text}
+use Rattle.p11_lines.specs.Calls.LineText.{line_text}
 use Rattle.p11_panel.specs.declared.store.StoreError.{StoreError}
 use Rattle.p11_cpu.specs.State.{State}
 use Rattle.p11_panel.specs.Session.{SessionState, with_store, Obeys}

@@ -250,7 +250,7 @@ fn keep_run<L: Write, A: Allocator>(journal: &mut L, turns: u32) -> bool
 }
 
 /// The line of a run in a record.
-#[tactic(auto, unfolding(p11_lines::specs::LineText::line_text))]
+#[tactic(auto, unfolding(p11_lines::specs::Calls::LineText::line_text))]
 fn run_line<A: Allocator>(turns: u32) -> Option<ArrayVec<u8, 32>>
     ensures { IfSome result (λ text. text.items ≡ ended {A = A} (Line.Step turns)) }
 {

@@ -1,10 +1,10 @@
 pub mod StatusRegister
 pub mod ReceiverState
 pub mod ReceiverEvents
-pub mod Taking
 pub mod TransmitterState
 pub mod TransmitterEvents
 pub mod LineState
 pub mod LineEvents
 pub mod Addresses
-pub mod DueTurns
+pub mod Laws
+pub mod Calls

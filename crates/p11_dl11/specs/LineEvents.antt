@@ -1,5 +1,5 @@
 -- What happens to the console line, event by event.
-use Rattle.std.specs.Prelude.{ℕ, ◌%◌, Bool, Result, Ok, Err, length, if◌then◌else◌, nat_lt}
+use Rattle.std.specs.Prelude.{ℕ, ◌%◌, Result, Ok, Err, length, if◌then◌else◌, nat_lt}
 use Rattle.p11_dl11.specs.declared.line.KeysFull.{KeysFull}
 use Rattle.p11_dl11.specs.declared.register.Register.{Register}
 use Rattle.p11_dl11.specs.declared.register.Register.TheVariants.{ReceiverStatus, ReceiverBuffer, TransmitterStatus, TransmitterBuffer}
@@ -55,11 +55,6 @@ line_after_write turn TransmitterBuffer word l =
 unfoldable pub line_after_turn : ℕ → LineState → LineState
 line_after_turn turn l =
     record { receiver = receiver_after_turn turn l.receiver; transmitter = transmitter_after_turn turn l.transmitter }
-
--- whether a section requests an interrupt
-abbrev pub line_requests : Section → LineState → Bool
-line_requests Receiver l = l.receiver.request
-line_requests Transmitter l = l.transmitter.request
 
 -- the processor serves the interrupt of a section
 unfoldable pub line_after_service : Section → LineState → LineState

@@ -2,7 +2,7 @@
 ghost use Rattle.std.specs.Prelude.{ℕ, ◌≡◌, ◌≢◌, ◌<◌, ◌≤◌, Some, None, true};
 ghost use Rattle.p11_dl11.specs.LineState.{LineState};
 ghost use Rattle.p11_dl11.specs.LineEvents.{line_after_init, line_after_turn};
-ghost use Rattle.p11_dl11.specs.DueTurns.{IsBefore, IsNotAfter};
+ghost use Rattle.p11_dl11.specs.Laws.DueTurns.{IsBefore, IsNotAfter};
 ghost use Rattle.p11_dl11.specs.ReceiverEvents.{receiver_after_turn, receiver_due};
 ghost use Rattle.p11_dl11.specs.TransmitterEvents.{transmitter_due, typed_in};
 

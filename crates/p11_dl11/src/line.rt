@@ -1,7 +1,8 @@
 ghost use Rattle.std.specs.Prelude.{◌≡◌, ◌≤◌, ◌<◌, ◌^◌, ◌+◌, length, IfOk, IsOk, is_some};
-ghost use Rattle.p11_dl11.specs.LineEvents.{line_after_init, line_after_key, line_after_read, line_after_service, line_after_turn, line_after_write, line_requests, line_word, new_line};
+ghost use Rattle.p11_dl11.specs.LineEvents.{line_after_init, line_after_key, line_after_read, line_after_service, line_after_turn, line_after_write, line_word, new_line};
+ghost use Rattle.p11_dl11.specs.Calls.Requests.{line_requests};
 ghost use Rattle.p11_dl11.specs.ReceiverEvents.{receiver_due, receiver_room};
-ghost use Rattle.p11_dl11.specs.Taking.{takes_from};
+ghost use Rattle.p11_dl11.specs.Calls.Taking.{takes_from};
 ghost use Rattle.p11_dl11.specs.TransmitterEvents.{transmitter_due, typed_in};
 
 use crate::receiver::Receiver;

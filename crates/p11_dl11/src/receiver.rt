@@ -2,7 +2,7 @@
 ghost use Rattle.std.specs.Prelude.{◌≡◌, ◌≤◌, ◌<◌, ◌^◌, ◌+◌, length, IfOk};
 ghost use Rattle.p11_dl11.specs.ReceiverEvents.{new_receiver, receiver_after_enable, receiver_after_init, receiver_after_key, receiver_after_read, receiver_after_service, receiver_after_turn, receiver_due, receiver_room};
 ghost use Rattle.p11_dl11.specs.StatusRegister.{section_word};
-ghost use Rattle.p11_dl11.specs.Taking.{takes_from};
+ghost use Rattle.p11_dl11.specs.Calls.Taking.{takes_from};
 
 use crate::keys::{Keys, MOST_KEYS};
 use crate::status::{requests, section_word};
@@ -136,7 +136,7 @@ impl<A: Allocator> Receiver<A> {
     }
 
     /// The turn from which it takes a key, which may have passed, if one waits and done is 0.
-    #[tactic(auto, unfolding(crate::specs::Taking::takes_from))]
+    #[tactic(auto, unfolding(crate::specs::Calls::Taking::takes_from))]
     pub(crate) fn takes_from(&self) -> Option<u64>
         ensures { result ≡ takes_from self.now }
     {

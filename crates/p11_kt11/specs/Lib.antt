@@ -2,8 +2,9 @@ pub mod Page
 pub mod Reference
 pub mod Register
 pub mod Management
-pub mod Kept
 pub mod Translation
 pub mod Registers
-pub mod Window
+pub mod IoPage
+pub mod Kept
 pub mod Laws
+pub mod Calls

@@ -1,10 +1,9 @@
 -- The state of memory management, as programs and the operator see it.
-use Rattle.std.specs.Prelude.{◌≡◌, ℕ, ◌<◌, List, length, false, replicate, slice_index_or, slice_set, if◌then◌else◌}
+use Rattle.std.specs.Prelude.{ℕ, List, false, replicate, slice_index_or, slice_set, if◌then◌else◌}
 use Rattle.p11_psw.specs.declared.mode.Mode.TheVariants.{Kernel}
 use Rattle.p11_kt11.specs.declared.page.Page.{Page}
 use Rattle.p11_kt11.specs.declared.status.Status.{Status}
 use Rattle.p11_kt11.specs.declared.register.Space.{Space}
-use Rattle.p11_kt11.specs.declared.entry.Entries.{Entries}
 use Rattle.p11_kt11.specs.declared.register.Space.TheVariants.{Kernel as KernelSpace, User as UserSpace}
 use Rattle.p11_kt11.specs.Page.{clear_page}
 use Rattle.p11_kt11.specs.Reference.{any_cause, no_cause}
@@ -17,21 +16,6 @@ pub record Management : Type 0 where
   pub status : Status
   -- SR2, the virtual PC at the start of the instruction
   pub instruction : ℕ
-
--- what every unit keeps: eight pages in each space, and SR2 a word
-pub record IsManagement (s : Management) : Type 0 where
-  pub kernel : length s.kernel ≡ 8
-  pub user : length s.user ≡ 8
-  pub instruction : s.instruction < 0o200000
-
--- What contracts see of the unit. What a body keeps beside the registers, to find its answers sooner, stands beside
--- `visible`, and no clause on `visible` speaks of it.
-pub record Kt11State : Type 0 where
-  pub visible : Management
-  -- the entries of its pages
-  pub entries : Entries
-  -- how many references they served
-  pub hits : ℕ
 
 -- SR0 with no error, mode 00, page 0 and mapping off
 unfoldable pub clear_status : Status

@@ -9,7 +9,7 @@ use Rattle.std.proofs.lemmas.Fmt.{digits_is_IsNumeral, decimal_is_IsNumeral, len
 use Rattle.std.proofs.lemmas.List.Elements.{All-nil, All-cons}
 use Rattle.std.proofs.Math.Nat.{pow-suc}
 use Rattle.p11_lines.specs.Grammar.{is_blank, all_digits, number_from, count_from}
-use Rattle.p11_lines.specs.LineText.{octal, FitsCount}
+use Rattle.p11_lines.specs.Calls.LineText.{octal, FitsCount}
 use Rattle.p11_lines.proofs.Numerals.{digit_value-is}
 
 -- a text of digits, at most so many, that writes the number

@@ -8,7 +8,8 @@ use Rattle.p11_lines.specs.AnswerText.{six_octals, exam_text, exam_texts, typed_
 use Rattle.p11_lines.specs.declared.answer.DriveShown.{DriveShown}
 use Rattle.p11_lines.specs.Escapes.{escaped}
 use Rattle.p11_lines.specs.Writers.{WriterState, Writes}
-use Rattle.p11_lines.specs.Written.{Wrote, AppendsFront, Puts}
+use Rattle.p11_lines.specs.Calls.Writing.{Wrote, Puts}
+use Rattle.p11_lines.specs.Written.{AppendsFront}
 use Rattle.p11_lines.specs.declared.output.Broken.{Broken}
 use Rattle.p11_lines.proofs.Calls.{Writes-none, Writes-trans}
 

@@ -8,7 +8,7 @@ use Rattle.std.proofs.lemmas.List.Sums.{AllPass-from_list_all}
 use Rattle.p11_lines.specs.declared.line.Line.{Line}
 use Rattle.p11_lines.specs.declared.line.Line.TheVariants.{Mount, Unmount, Save, Changed, Load, Examine, Deposit, Start, Key, Tick, Clock, Switches, Set, Step, Continue, Regs, Device, Flush}
 use Rattle.p11_lines.specs.Grammar.{is_blank, words_of, address_from, word_from, all_words_from, examine_from, deposit_from, start_from, key_from, plain_from, period_from, clock_from, switches_from, set_from, turns_from, line_from_words, line_from, is_graphic, is_name, name_from, access_text, access_from, mount_from, save_from, load_from, drive_from, disk_line_from}
-use Rattle.p11_lines.specs.LineText.{octal, line_text, FitsCount, FitsGrammar}
+use Rattle.p11_lines.specs.Calls.LineText.{octal, line_text, FitsCount, FitsGrammar}
 use Rattle.p11_lines.specs.Escapes.{escaped}
 use Rattle.p11_lines.proofs.Escapes.{bytes_from-escaped, graphs_of-escaped, some-escaped}
 use Rattle.p11_lines.proofs.Parts.{words_of-word, words_of-last}

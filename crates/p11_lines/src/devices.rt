@@ -2,7 +2,7 @@
 ghost use Rattle.std.specs.Prelude.{◌≡◌, ◌++◌, OnOk, OnErr};
 ghost use Rattle.p11_lines.specs.AnswerText.{clock_text, due_text, line_words_text, line_waits_text, management_text};
 ghost use Rattle.p11_lines.specs.AnswerText.{request_text, requests_text, devices_text};
-ghost use Rattle.p11_lines.specs.Written.{Puts};
+ghost use Rattle.p11_lines.specs.Calls.Writing.{Puts};
 
 use crate::answer::{ClockShown, Devices, LineRegisters, ManagementRegisters, Requests};
 use crate::output::{Broken, Table, octal, put_all};

@@ -3,7 +3,7 @@ ghost use Rattle.std.specs.Prelude.{◌≡◌};
 ghost use Rattle.std.specs.List.{list_all};
 ghost use Rattle.p11_lines.specs.Grammar.{words_of, word_from, is_graphic, is_name, access_from, mount_from, save_from};
 ghost use Rattle.p11_lines.specs.Grammar.{drive_from, disk_line_from};
-ghost use Rattle.p11_lines.specs.Reading.{Reads};
+ghost use Rattle.p11_lines.specs.Calls.Reading.{Reads};
 
 use crate::bytes::Bytes;
 use crate::fault::Fault;

@@ -1,7 +1,7 @@
 // From the text of a `key` line to the bytes that its keys give.
 ghost use Rattle.std.specs.Prelude.{◌≡◌, ◌<◌, ◌≤◌, ◌∷◌, length, is_some, option_and_then, IfSome, MatchOption};
 ghost use Rattle.p11_lines.specs.Grammar.{words_of, escape_from, bytes_from, key_from};
-ghost use Rattle.p11_lines.specs.Reading.{GivesList, Reads};
+ghost use Rattle.p11_lines.specs.Calls.Reading.{GivesList, Reads};
 
 use crate::bytes::Bytes;
 use crate::escape::is_plain;

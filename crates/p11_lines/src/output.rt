@@ -4,7 +4,8 @@ ghost use Rattle.std.specs.List.{flat_map};
 ghost use Rattle.p11_lines.specs.AnswerText.{text_of, six_octals, exam_text, exam_texts};
 ghost use Rattle.p11_lines.specs.AnswerText.{mark_text, spaced_text, general_text, pointers_text, turn_text};
 ghost use Rattle.p11_lines.specs.AnswerText.{registers_text, fault_text};
-ghost use Rattle.p11_lines.specs.Written.{Puts, AppendsFront};
+ghost use Rattle.p11_lines.specs.Calls.Writing.{Puts};
+ghost use Rattle.p11_lines.specs.Written.{AppendsFront};
 ghost use Rattle.p11_lines.specs.Writers.{Writes};
 
 use crate::answer::{Answer, Mark, Registers};

@@ -2,7 +2,7 @@
 ghost use Rattle.std.specs.Prelude.{◌≡◌, ◌++◌, ◌∷◌, codes, length, decimal};
 ghost use Rattle.p11_lines.specs.AnswerText.{disk_text, disk_due_text, pack_text, drive_text, drives_text};
 ghost use Rattle.p11_lines.specs.AnswerText.{numbers_text, sectors_text};
-ghost use Rattle.p11_lines.specs.Written.{Puts};
+ghost use Rattle.p11_lines.specs.Calls.Writing.{Puts};
 
 use crate::answer::{DiskRegisters, DriveShown};
 use crate::devices::due_name;

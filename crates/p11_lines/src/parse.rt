@@ -5,7 +5,7 @@ ghost use Rattle.std.specs.Str.Parse.{digits_value};
 ghost use Rattle.p11_lines.specs.Grammar.{is_blank, words_of, all_digits, number_from, address_from, word_from};
 ghost use Rattle.p11_lines.specs.Grammar.{count_from, all_words_from, examine_from, deposit_from, start_from};
 ghost use Rattle.p11_lines.specs.Grammar.{clock_from, plain_from, period_from, switches_from, set_from, turns_from, line_from};
-ghost use Rattle.p11_lines.specs.Reading.{Reads, GivesList};
+ghost use Rattle.p11_lines.specs.Calls.Reading.{Reads, GivesList};
 
 use crate::disks::disk_line;
 use crate::fault::Fault;

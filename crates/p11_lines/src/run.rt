@@ -2,7 +2,7 @@
 ghost use Rattle.std.specs.Prelude.{◌≡◌, ◌++◌, codes, OnOk, OnErr};
 ghost use Rattle.p11_lines.specs.AnswerText.{stop_text, reason_text, typed_text};
 ghost use Rattle.p11_lines.specs.Escapes.{escaped, escaped_byte};
-ghost use Rattle.p11_lines.specs.Written.{Puts};
+ghost use Rattle.p11_lines.specs.Calls.Writing.{Puts};
 
 use crate::answer::StopReason;
 use crate::escape::{escape, is_plain};

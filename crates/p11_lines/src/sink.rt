@@ -2,7 +2,8 @@
 ghost use Rattle.std.specs.Prelude.{◌≡◌, [], ◌∷◌, None};
 ghost use Rattle.std.specs.Io.{WritesAtMost};
 ghost use Rattle.std.specs.Io.KnownBytes.{WriteAppends};
-ghost use Rattle.p11_lines.specs.Writers.{with_calls, took_some};
+ghost use Rattle.p11_lines.specs.Writers.{with_calls};
+ghost use Rattle.p11_lines.specs.Calls.Writing.{took_some};
 
 use std::io;
 use std::io::Write;

@@ -2,8 +2,8 @@
 ghost use Rattle.std.specs.Prelude.{◌≡◌, ◌++◌, IfOk, codes};
 ghost use Rattle.p11_lines.specs.AnswerText.{tape_text};
 ghost use Rattle.p11_lines.specs.Grammar.{words_of, load_from};
-ghost use Rattle.p11_lines.specs.Reading.{Reads};
-ghost use Rattle.p11_lines.specs.Written.{Puts};
+ghost use Rattle.p11_lines.specs.Calls.Reading.{Reads};
+ghost use Rattle.p11_lines.specs.Calls.Writing.{Puts};
 
 use crate::bytes::Bytes;
 use crate::disks::is_name;

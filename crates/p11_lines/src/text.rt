@@ -3,7 +3,7 @@ ghost use Rattle.std.specs.Prelude.{◌≡◌, ◌++◌, ◌∷◌, IfOk, OnOk, 
 ghost use Rattle.std.specs.List.{flat_map};
 ghost use Rattle.p11_lines.specs.Escapes.{escaped, escaped_byte};
 ghost use Rattle.p11_lines.specs.Grammar.{access_text};
-ghost use Rattle.p11_lines.specs.LineText.{line_text, octal, ReadsBack};
+ghost use Rattle.p11_lines.specs.Calls.LineText.{line_text, octal, ReadsBack};
 
 use crate::escape::{escape, is_plain};
 use crate::fault::NoMemory;
@@ -86,7 +86,7 @@ fn save_text<A: Allocator>(alloc: A, drive: u32, name: &[u8]) -> Result<Vec<u8, 
 }
 
 /// The text of a line, with one space between words and no zeros at the front of a number.
-#[tactic(auto, unfolding(crate::specs::LineText::line_text))]
+#[tactic(auto, unfolding(crate::specs::Calls::LineText::line_text))]
 pub fn line_of<A: Allocator>(alloc: A, line: &Line<A>) -> Result<Vec<u8, A>, NoMemory>
     ensures { IfOk result (λ text. text.items ≡ line_text line.now) }
 {

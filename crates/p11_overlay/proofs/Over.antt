@@ -7,7 +7,7 @@ use Rattle.std.proofs.lemmas.List.{ext_get_or, get_or_past, get_or-take, length-
 use Rattle.std.proofs.lemmas.List.FromFn.{get_or-map-range_with_len, length-map-range_with_len}
 use Rattle.std.specs.Int.{div_ceil}
 use Rattle.p11_overlay.specs.Drive.{all_sectors, image_bytes, sector_bytes, filled, sector_within, sectors_of}
-use Rattle.p11_overlay.specs.Kept.{base_of, base_sector, over_base, sectors_over}
+use Rattle.p11_overlay.specs.Kept.Sectors.{base_of, base_sector, over_base, sectors_over}
 use Rattle.p11_overlay.proofs.Sectors.{sector_past}
 
 pub sector_over : (base : List (List ℕ)) (kept : ℕ → Option (List ℕ)) (n : ℕ) → n < all_sectors → get_or (sectors_over base kept) n [] ≡ over_base base n (kept n)

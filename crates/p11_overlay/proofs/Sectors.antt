@@ -5,9 +5,10 @@ use Rattle.std.proofs.Math.Seq.{drop-append-add, take-add}
 use Rattle.std.proofs.lemmas.List.{same_lists, places, append_assoc, append-nil, length-append, drop-drop, drop-replicate, drop_at, length-drop, length-replicate, length-take-le, take_all, take_at, take_more, take_rest, take-replicate}
 use Rattle.std.proofs.lemmas.List.Elements.{All-from_get_or, All-head, All-nil, All-tail}
 use Rattle.std.proofs.lemmas.List.FromFn.{fill_by_all, get_or-map-range_with_len, length-map-range_with_len, map-range_with_len_more, take-map-range_with_len}
-use Rattle.p11_overlay.specs.Drive.{IsWhole, all_sectors, image_bytes, filled, mounted, sector_within, sectors_of}
+use Rattle.p11_overlay.specs.Kept.Prepared.{IsWhole}
+use Rattle.p11_overlay.specs.Drive.{all_sectors, image_bytes, filled, mounted, sector_within, sectors_of}
 use Rattle.std.specs.Int.{div_ceil}
-use Rattle.p11_overlay.specs.Kept.{base_of}
+use Rattle.p11_overlay.specs.Kept.Sectors.{base_of}
 
 -- one more list at the end
 pub concat-push : (xss : List (List ℕ)) (xs : List ℕ) → concat (xss ++ xs ∷ []) ≡ concat xss ++ xs

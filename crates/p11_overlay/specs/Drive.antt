@@ -1,8 +1,8 @@
--- An RK05 drive with a pack on it: what the pack holds, and which sectors may be written without taking memory.
+-- An RK05 drive with a pack on it, and what the pack holds.
 -- A pack has 203 cylinders of 2 surfaces of 12 sectors of 512 bytes, which are numbered in that order: by cylinder,
 -- then by surface, then by sector.
-use Rattle.std.specs.Prelude.{◌≡◌, ℕ, ◌-◌, ◌*◌, ◌<◌, Bool, IsTrue, nat_eq, List, [], ◌∷◌, ◌++◌, length, take, drop, map, replicate, slice_set, slice_index_or, All, if◌then◌else◌}
-use Rattle.std.specs.List.{list_any, range_with_len, concat, IsDistinct}
+use Rattle.std.specs.Prelude.{ℕ, ◌-◌, ◌*◌, Bool, nat_eq, List, [], ◌∷◌, ◌++◌, length, take, drop, map, replicate, slice_set, slice_index_or, if◌then◌else◌}
+use Rattle.std.specs.List.{list_any, range_with_len, concat}
 
 abbrev pub all_sectors : ℕ
 all_sectors = 4872
@@ -19,20 +19,6 @@ pub record Contents : Type 0 where
   pub sectors : List (List ℕ)
   pub protected : Bool
   pub changed : List ℕ
-
--- The contents, and the numbers of the sectors that may be written without taking memory.
--- The order of these means nothing: see `IsPrepared`.
-pub record DriveState : Type 0 where
-  pub contents : Contents
-  pub prepared : List ℕ
-
--- a write of sector n takes no memory
-abbrev pub IsPrepared : DriveState → ℕ → Type 0
-IsPrepared drive n = IsTrue (list_any (nat_eq n) drive.prepared)
-
--- sector n was written since the mount
-abbrev pub IsChanged : Contents → ℕ → Type 0
-IsChanged contents n = IsTrue (list_any (nat_eq n) contents.changed)
 
 -- the bytes of sector n
 abbrev pub sector_of : Contents → ℕ → List ℕ
@@ -70,10 +56,3 @@ written contents n bytes =
       protected = contents.protected;
       changed = changed_with contents.changed n;
     }
-
--- What every drive has: 4,872 sectors of 512 bytes, and each changed sector listed once.
-pub record IsWhole (contents : Contents) : Type 0 where
-  pub count : length contents.sectors ≡ all_sectors
-  pub bytes : All (λ sector. length sector ≡ sector_bytes) contents.sectors
-  pub numbers : All (λ n. n < all_sectors) contents.changed
-  pub once : IsDistinct nat_eq contents.changed

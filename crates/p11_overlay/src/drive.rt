@@ -3,7 +3,7 @@ ghost use Rattle.std.specs.Prelude.{◌≡◌, ℕ, ◌<◌, ◌≤◌, ◌+◌,
 ghost use Rattle.std.specs.List.{list_any};
 ghost use Rattle.indexmap.specs.IndexMap.{get, index_map_len, keys, IsUnchanged};
 ghost use Rattle.p11_overlay.specs.Drive.{all_sectors, changed_with, filled, image_bytes, sector_bytes, sector_within};
-ghost use Rattle.p11_overlay.specs.Kept.{base_of, base_sector};
+ghost use Rattle.p11_overlay.specs.Kept.Sectors.{base_of, base_sector};
 
 use crate::geometry::{ALL_SECTORS, IMAGE_BYTES, SECTOR_BYTES};
 use indexmap::IndexMap;
@@ -37,8 +37,8 @@ pub struct Drive<A: Allocator = Global> {
 impl<A: Allocator> Model for Drive<A> {
     ghost use Rattle.std.specs.Prelude.{nat_eq, length, vec_capacity};
     ghost use Rattle.indexmap.specs.IndexMap.{get, index_map_len, keys};
-    ghost use Rattle.p11_overlay.specs.Drive.{DriveState};
-    ghost use Rattle.p11_overlay.specs.Kept.{contents_of, IsKept};
+    ghost use Rattle.p11_overlay.specs.Kept.Prepared.{DriveState};
+    ghost use Rattle.p11_overlay.specs.Kept.Sectors.{contents_of, IsKept};
 
     ghost Value = { DriveState };
 
@@ -73,7 +73,8 @@ impl<A: Allocator + Copy> Drive<A> {
 }
 
 impl<A: Allocator> Drive<A> {
-    ghost use Rattle.p11_overlay.specs.Drive.{IsPrepared, IsChanged, IsWhole, sector_of, sectors_of, image_of, written};
+    ghost use Rattle.p11_overlay.specs.Kept.Prepared.{IsPrepared, IsChanged, IsWhole};
+    ghost use Rattle.p11_overlay.specs.Drive.{sector_of, sectors_of, image_of, written};
 
     /// The 512 bytes of sector `n`.
     pub fn sector(&self, n: u16) -> &[u8]
@@ -213,7 +214,7 @@ fn add_once<A: Allocator>(list: &mut Vec<u16, A>, n: u16)
 }
 
 /// Sector `n` of the mounted image: zeros where the image has no bytes.
-#[tactic(auto, unfolding(crate::specs::Kept::base_sector))]
+#[tactic(auto, unfolding(crate::specs::Kept::Sectors::base_sector))]
 fn mounted_sector(base: &[[u8; SECTOR_BYTES]], n: u16) -> &[u8; SECTOR_BYTES]
     ensures { result.now ≡ base_sector base.now n }
 {

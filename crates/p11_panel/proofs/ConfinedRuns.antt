@@ -12,8 +12,10 @@ use Rattle.p11_rk11.specs.declared.registers.Registers.{Registers}
 use Rattle.p11_unibus.specs.Acts.{bus_after_clock, bus_after_disk, bus_after_line, bus_after_turn}
 use Rattle.p11_unibus.specs.Events.{bus_after_take}
 use Rattle.p11_unibus.specs.State.{BusState}
-use Rattle.p11_unibus.specs.Written.{ChangedOnly, is_listed}
-use Rattle.p11_cpu.specs.Confinement.{ChangesWithin, ConfinesStill, IsConfining, UserTurnIsConfined, UserTurnKeepsConfining, acted_next, after_devices, begins_service}
+use Rattle.p11_unibus.specs.Kept.Written.{ChangedOnly}
+use Rattle.p11_unibus.specs.Written.{is_listed}
+use Rattle.p11_cpu.specs.Laws.Confined.{ChangesWithin, ConfinesStill, UserTurnIsConfined, UserTurnKeepsConfining}
+use Rattle.p11_cpu.specs.Confinement.{IsConfining, acted_next, after_devices, begins_service}
 use Rattle.p11_cpu.specs.OperatorDevices.{take_typed_of}
 use Rattle.p11_cpu.specs.State.{State}
 use Rattle.p11_cpu.specs.Turns.{devices_acted, marks_cleared, turn_of}

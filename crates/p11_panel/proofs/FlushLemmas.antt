@@ -4,8 +4,8 @@ use Rattle.std.proofs.lemmas.List.Elements.{All-head, All-tail}
 use Rattle.p11_cpu.specs.State.{State}
 use Rattle.p11_cpu.specs.Operator.{new_machine}
 use Rattle.p11_panel.specs.Play.{Plays}
-use Rattle.p11_panel.specs.Laws.{HadMemory, RunsHaveOneOutcome}
-use Rattle.p11_panel.specs.FlushLaws.{FlushShowsNothing, LinesShowNothing}
+use Rattle.p11_panel.specs.Laws.Outcomes.{HadMemory, RunsHaveOneOutcome}
+use Rattle.p11_panel.specs.Laws.Flush.{FlushShowsNothing, LinesShowNothing}
 use Rattle.p11_panel.proofs.OutcomeLemmas.{acts_once, plays_once}
 
 pub flush_out : {A : Type 0} → RunsHaveOneOutcome → FlushShowsNothing A

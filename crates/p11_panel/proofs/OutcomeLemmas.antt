@@ -24,7 +24,7 @@ use Rattle.p11_panel.specs.Keys.{pressed}
 use Rattle.p11_panel.specs.Ranges.{deposited}
 use Rattle.p11_panel.specs.Play.{Plays}
 use Rattle.p11_panel.specs.Tapes.{Loads, Places, all_fit, loaded}
-use Rattle.p11_panel.specs.Laws.{HadMemory, RunsHaveOneOutcome, CommandsHaveOneOutcome, ListsHaveOneOutcome}
+use Rattle.p11_panel.specs.Laws.Outcomes.{HadMemory, RunsHaveOneOutcome, CommandsHaveOneOutcome, ListsHaveOneOutcome}
 
 -- what nothing leaves open is the same both times
 done_once : {A : Type 0} (done answer other : Answer A) (after s' t' : State) → IsDone done after answer s' → IsDone done after other t' → (answer ≡ other) × (s' ≡ t')

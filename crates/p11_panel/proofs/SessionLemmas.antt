@@ -14,11 +14,11 @@ use Rattle.p11_lines.specs.Grammar.{line_from}
 use Rattle.p11_lines.specs.Writers.{WriterState, Writes, with_calls}
 use Rattle.p11_lines.specs.Written.{AppendsFront}
 use Rattle.p11_lines.proofs.Calls.{Writes-none, Writes-trans, calls_none, calls_trans, calls_last}
-use Rattle.p11_panel.specs.Buffer.{kept, pushed}
+use Rattle.p11_panel.specs.Kept.Buffer.{kept, pushed}
 use Rattle.p11_panel.specs.Readers.{ReaderState, Reads}
 use Rattle.p11_panel.specs.Script.{pieces_of, without_cr, ended_lines, script_lines}
 use Rattle.p11_panel.specs.Session.{SessionState, has_answer, LineDoes, Runs, Did, Broke, texts_of}
-use Rattle.p11_panel.specs.Standing.{Stands}
+use Rattle.p11_panel.specs.Kept.Standing.{Stands}
 use Rattle.p11_panel.proofs.BufferLemmas.{kept_nil, kept_push}
 use Rattle.p11_panel.proofs.ScriptLemmas.{lines_at_lf, last_at_lf, lines_at_other, last_at_other, lines_front}
 

@@ -1,6 +1,4 @@
-pub mod Sizes
 pub mod Runs
-pub mod Laws
 pub mod Ranges
 pub mod Keys
 pub mod Refusals
@@ -10,11 +8,10 @@ pub mod Tapes
 pub mod Commands
 pub mod Play
 pub mod Confinement
-pub mod FlushLaws
 pub mod Script
-pub mod Buffer
 pub mod Readers
 pub mod Store
-pub mod Files
 pub mod Session
-pub mod Standing
+pub mod Kept
+pub mod Calls
+pub mod Laws

@@ -1,5 +1,5 @@
 ghost use Rattle.std.specs.Prelude.{◌≡◌, ◌≤◌, true};
-ghost use Rattle.p11_panel.specs.Sizes.{is_size, sizes_of};
+ghost use Rattle.p11_panel.specs.Calls.Sizes.{is_size, sizes_of};
 
 use p11_lines::Fault;
 use std::marker::Model;
@@ -13,7 +13,7 @@ pub struct Config {
 
 impl Model for Config {
     ghost use Rattle.std.specs.Prelude.{◌≡◌, true};
-    ghost use Rattle.p11_panel.specs.Sizes.{Sizes, is_size};
+    ghost use Rattle.p11_panel.specs.Calls.Sizes.{Sizes, is_size};
 
     ghost Value = { Sizes };
 
@@ -25,7 +25,7 @@ impl Model for Config {
 }
 
 /// Whether a machine can have these sizes.
-#[tactic(auto, unfolding(crate::specs::Sizes::is_size))]
+#[tactic(auto, unfolding(crate::specs::Calls::Sizes::is_size))]
 fn accepts(kwords: u32, lines: u32) -> bool
     ensures { result ≡ is_size kwords lines }
 {
@@ -38,7 +38,7 @@ impl Config {
     /// # Errors
     ///
     /// `BadSize` unless memory is 4 to 124 thousand words in steps of 4, and decoded words are 4,096 at most.
-    #[tactic(auto, unfolding(crate::specs::Sizes::sizes_of))]
+    #[tactic(auto, unfolding(crate::specs::Calls::Sizes::sizes_of))]
     pub fn new(kwords: u32, lines: u32) -> Result<Config, Fault>
         ensures { result ≡ sizes_of kwords lines }
     {
@@ -50,7 +50,7 @@ impl Config {
     }
 
     /// Thousands (1,024) of words of memory.
-    #[tactic(auto, unfolding(crate::specs::Sizes::is_size))]
+    #[tactic(auto, unfolding(crate::specs::Calls::Sizes::is_size))]
     pub fn kwords(self) -> u32
         ensures value { result ≡ self.kwords }
         ensures range { result ≤ 124 }
@@ -59,7 +59,7 @@ impl Config {
     }
 
     /// How many decoded words may be kept.
-    #[tactic(auto, unfolding(crate::specs::Sizes::is_size))]
+    #[tactic(auto, unfolding(crate::specs::Calls::Sizes::is_size))]
     pub fn lines(self) -> u32
         ensures value { result ≡ self.lines }
         ensures range { result ≤ 4096 }

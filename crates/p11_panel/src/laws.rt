@@ -1,6 +1,6 @@
 //! Laws of the definitions, each a function that does nothing, whose contract is the law.
-ghost use Rattle.p11_panel.specs.FlushLaws.{FlushShowsNothing, LinesShowNothing};
-ghost use Rattle.p11_panel.specs.Laws.{RunsHaveOneOutcome, CommandsHaveOneOutcome, ListsHaveOneOutcome};
+ghost use Rattle.p11_panel.specs.Laws.Flush.{FlushShowsNothing, LinesShowNothing};
+ghost use Rattle.p11_panel.specs.Laws.Outcomes.{RunsHaveOneOutcome, CommandsHaveOneOutcome, ListsHaveOneOutcome};
 
 use std::alloc::Allocator;
 

@@ -1,5 +1,5 @@
 ghost use Rattle.std.specs.Prelude.{◌≡◌, Some, [], option_copied};
-ghost use Rattle.p11_panel.specs.Buffer.{pushed};
+ghost use Rattle.p11_panel.specs.Kept.Buffer.{pushed};
 
 use std::marker::Model;
 

@@ -2,11 +2,11 @@ ghost use Rattle.std.specs.Prelude.{◌≡◌, ◌≤◌, ◌<◌, ◌+◌, ◌+
 ghost use Rattle.std.specs.Prelude.{IfOk, OnErr, IsErrOf};
 ghost use Rattle.std.specs.Io.KnownBytes.{IsAtEnd};
 ghost use Rattle.p11_lines.specs.Writers.{WriterState};
-ghost use Rattle.p11_panel.specs.Buffer.{kept};
+ghost use Rattle.p11_panel.specs.Kept.Buffer.{kept};
 ghost use Rattle.p11_panel.specs.Script.{without_cr, ended_lines, script_lines};
 ghost use Rattle.p11_panel.specs.Readers.{Reads};
 ghost use Rattle.p11_panel.specs.Session.{SessionState, with_store, LineDoes, Did, Broke};
-ghost use Rattle.p11_panel.specs.Standing.{Stands};
+ghost use Rattle.p11_panel.specs.Kept.Standing.{Stands};
 
 use crate::answering::do_line;
 use crate::line_buffer::LineBuffer;

@@ -3,3 +3,5 @@ pub mod Status
 pub mod Sources
 pub mod Vectors
 pub mod Zones
+pub mod Laws
+pub mod Calls

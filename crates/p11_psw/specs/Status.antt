@@ -32,10 +32,6 @@ status_of word =
       c = bit_of word 0o1;
     }
 
--- a word with its bits 11:8 made 0
-unfoldable pub without_unused : ℕ → ℕ
-without_unused word = word / 0o10000 * 0o10000 + word % 0o400
-
 -- a new machine's status: kernel mode, priority 0, no trace, no codes
 unfoldable pub new_status : Psw
 new_status =

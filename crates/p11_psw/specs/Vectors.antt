@@ -1,7 +1,5 @@
--- The vectors of traps and interrupts, and the levels at which devices interrupt.
-use Rattle.std.specs.Prelude.{ℕ, Option, Some, None}
-use Rattle.p11_psw.specs.declared.priority.Priority.{Priority}
-use Rattle.p11_psw.specs.declared.priority.Priority.TheVariants.{Level4, Level5, Level6}
+-- The vectors of traps and interrupts.
+use Rattle.std.specs.Prelude.{ℕ}
 use Rattle.p11_psw.specs.declared.vector.Vector.{Vector}
 use Rattle.p11_psw.specs.declared.vector.Vector.TheVariants.{BusError, ReservedInstruction, Breakpoint, InputOutputTrap, EmulatorTrap, Trap, MemoryManagement, Receiver, Transmitter, Clock, Disk}
 
@@ -18,17 +16,3 @@ vector_address Transmitter = 0o64
 vector_address Clock = 0o100
 vector_address Disk = 0o220
 vector_address MemoryManagement = 0o250
-
--- the level at which a device interrupts; a trap has none
-abbrev pub vector_level : Vector → Option Priority
-vector_level Clock = Some Level6
-vector_level Disk = Some Level5
-vector_level Receiver = Some Level4
-vector_level Transmitter = Some Level4
-vector_level BusError = None
-vector_level ReservedInstruction = None
-vector_level Breakpoint = None
-vector_level InputOutputTrap = None
-vector_level EmulatorTrap = None
-vector_level Trap = None
-vector_level MemoryManagement = None

@@ -4,7 +4,8 @@ ghost use Rattle.p11_psw.specs.declared.mode.Mode.{Mode};
 ghost use Rattle.p11_psw.specs.declared.psw.Psw.{Psw};
 ghost use Rattle.p11_psw.specs.Fields.{joined_mode, mode_number};
 ghost use Rattle.p11_psw.specs.Sources.{status_from_return};
-ghost use Rattle.p11_psw.specs.Status.{status_of, status_word, without_unused};
+ghost use Rattle.p11_psw.specs.Status.{status_of, status_word};
+ghost use Rattle.p11_psw.specs.Laws.Words.{without_unused};
 
 /// A status can be read back from its word.
 pub fn word_gives_fields()

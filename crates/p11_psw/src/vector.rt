@@ -1,5 +1,6 @@
 ghost use Rattle.std.specs.Prelude.{◌≡◌, ◌<◌};
-ghost use Rattle.p11_psw.specs.Vectors.{vector_address, vector_level};
+ghost use Rattle.p11_psw.specs.Vectors.{vector_address};
+ghost use Rattle.p11_psw.specs.Calls.Levels.{vector_level};
 
 use crate::priority::Priority;
 

@@ -3,14 +3,15 @@ use Rattle.std.proofs.Common.{◌≡◌, ℕ, ◌<◌, false, true, List, length
 use Rattle.std.proofs.lemmas.List.{length-set}
 use Rattle.p11_rk11.specs.declared.registers.Registers.{Registers}
 use Rattle.p11_rk11.specs.Acts.{after_seek_on, after_sector_on, disk_after_seek}
-use Rattle.p11_rk11.specs.Drives.{MountedDrive, MountedState}
-use Rattle.p11_rk11.specs.Laws.{TransferHasPlace}
+use Rattle.p11_rk11.specs.Drives.{MountedDrive}
+use Rattle.p11_rk11.specs.Kept.View.{MountedState}
+use Rattle.p11_rk11.specs.Laws.Registers.{TransferHasPlace}
 use Rattle.p11_rk11.specs.Memory.{Words}
-use Rattle.p11_rk11.specs.Place.{is_on_disk}
+use Rattle.p11_rk11.specs.Calls.Places.{is_on_disk}
 use Rattle.p11_rk11.specs.Registers.{is_due}
 use Rattle.p11_rk11.specs.Starts.{after_start_on}
 use Rattle.p11_rk11.specs.State.{Rk11State, drive_count, drive_of, selected, with_drive, with_registers_and_drive, drive_after_init, disk_after_unmount, is_busy}
-use Rattle.p11_rk11.specs.View.{Rk11View, view_of, visible_drive}
+use Rattle.p11_rk11.specs.Kept.View.{Rk11View, view_of, visible_drive}
 use Rattle.p11_rk11.proofs.Parts.{drive_changed, drive_mapped, part_changed, selected_changed, visible_same}
 use Rattle.p11_rk11.proofs.Reachable.{idle, same_registers, changed_reachable, reachable_after_unmount, seek_acted, started_on, moved_on, due_runs}
 

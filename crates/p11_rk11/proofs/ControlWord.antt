@@ -6,7 +6,7 @@ use Rattle.p11_rk11.specs.declared.function.Function.{Function}
 use Rattle.p11_rk11.specs.declared.function.Function.TheVariants.{ControlReset, Write, Read, WriteCheck, Seek, ReadCheck, DriveReset, WriteLock}
 use Rattle.p11_rk11.specs.Errors.{flag, error_word}
 use Rattle.p11_rk11.specs.Functions.{function_number}
-use Rattle.p11_rk11.specs.Laws.{ShowsItsBits}
+use Rattle.p11_rk11.specs.Laws.Registers.{ShowsItsBits}
 use Rattle.p11_rk11.specs.Registers.{control_word, low_bits, high_bits, is_ready}
 
 -- a flag is its weight times 0 or 1

@@ -13,9 +13,12 @@ use Rattle.p11_rk11.specs.Place.{sector_number}
 use Rattle.p11_rk11.specs.Functions.{is_write}
 use Rattle.p11_rk11.proofs.Words.{accepted}
 use Rattle.p11_rk11.specs.Registers.{is_due}
-use Rattle.p11_rk11.specs.Drives.{MountedDrive, MountedState}
-use Rattle.p11_rk11.specs.State.{Rk11State, drive_count, heads_at, drive_of, selected, with_drive, with_registers_and_drive}
-use Rattle.p11_rk11.specs.View.{Rk11View, view_of, visible_drive, prepared_sectors, prepared_on, IsPreparedDrive, IsPreparedSector, IsPreparedFor, KeepsPrepared, write_is_due, needs_memory, is_listed}
+use Rattle.p11_rk11.specs.Drives.{MountedDrive}
+use Rattle.p11_rk11.specs.Kept.View.{MountedState}
+use Rattle.p11_rk11.specs.State.{Rk11State, drive_count, drive_of, selected, with_drive, with_registers_and_drive}
+use Rattle.p11_rk11.specs.Calls.Heads.{heads_at}
+use Rattle.p11_rk11.specs.Kept.View.{Rk11View, view_of, visible_drive, prepared_sectors, prepared_on, IsPreparedDrive, IsPreparedSector, IsPreparedFor, KeepsPrepared}
+use Rattle.p11_rk11.specs.View.{write_is_due, needs_memory, is_listed}
 
 set_again : {X : Type 0} (xs : List X) (n : ℕ) (a b : X) → set (set xs n a) n b ≡ set xs n b
 set_again [] n a b = refl

@@ -8,7 +8,9 @@ use Rattle.std.proofs.lemmas.List.Elements.{All-head, All-tail}
 use Rattle.std.proofs.lemmas.List.FromFn.{get_or-map-range_with_len, length-map-range_with_len}
 use Rattle.byteorder.specs.Endian.{little_number, little_bytes}
 use Rattle.byteorder.specs.Numbers.{little_number-reads_back, length-bytes_low_first}
-use Rattle.p11_rk11.specs.Place.{Place, is_on_disk, sector_number, place_of_number, next_place}
+use Rattle.p11_rk11.specs.Place.{Place, sector_number, next_place}
+use Rattle.p11_rk11.specs.Calls.Places.{is_on_disk}
+use Rattle.p11_rk11.specs.Laws.Places.{place_of_number}
 use Rattle.p11_rk11.specs.Sector.{words_of_sector, bytes_of_words}
 use Rattle.p11_rk11.proofs.Words.{both_hold}
 

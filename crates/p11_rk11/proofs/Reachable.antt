@@ -13,9 +13,10 @@ use Rattle.p11_rk11.specs.declared.registers.Registers.{Registers}
 use Rattle.p11_rk11.specs.Acts.{disk_after_turn, disk_after_transfer, disk_after_seek, disk_after_seeks, after_seek_on, after_sector_on, after_sector, registers_after_seek, is_refused, differs}
 use Rattle.p11_rk11.specs.Drives.{MountedDrive}
 use Rattle.p11_rk11.specs.Functions.{uses_place, is_reset}
-use Rattle.p11_rk11.specs.Laws.{TransferHasPlace}
+use Rattle.p11_rk11.specs.Laws.Registers.{TransferHasPlace}
 use Rattle.p11_rk11.specs.Memory.{Words}
-use Rattle.p11_rk11.specs.Place.{Place, is_on_disk, next_place}
+use Rattle.p11_rk11.specs.Place.{Place, next_place}
+use Rattle.p11_rk11.specs.Calls.Places.{is_on_disk}
 use Rattle.p11_rk11.specs.Registers.{is_due, is_ready, ended, failed, requested, cleared_registers, with_enable, with_control, enable_rises, bit_of, registers_after_sector, next_sector_or_end, counters_advanced, with_difference, words_left}
 use Rattle.p11_rk11.specs.Starts.{drive_check, registers_after_begin, after_check, after_start, after_start_on, registers_cleared_by_go, disk_after_start, disk_after_go, disk_after_control_write, disk_after_value_write, disk_after_write, registers_with_value}
 use Rattle.p11_rk11.specs.State.{Rk11State, drive_count, drive_of, with_drive, with_registers_and_drive, selected, new_disk, disk_after_init, disk_after_service, disk_after_mount, disk_after_unmount, is_busy, seek_turn}

@@ -1,5 +1,5 @@
 -- A drive with its pack and its heads.
-use Rattle.std.specs.Prelude.{ℕ, List, Option}
+use Rattle.std.specs.Prelude.{ℕ, Option}
 use Rattle.p11_overlay.specs.Drive.{Contents}
 use Rattle.p11_rk11.specs.declared.mounted.PendingSeek.{PendingSeek}
 
@@ -8,8 +8,3 @@ pub record MountedDrive : Type 0 where
   pub contents : Contents
   pub cylinder : ℕ
   pub seek : Option PendingSeek
-
--- And beside it the sectors that may be written without taking memory.
-pub record MountedState : Type 0 where
-  pub visible : MountedDrive
-  pub prepared : List ℕ

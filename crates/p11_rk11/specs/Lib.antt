@@ -3,7 +3,6 @@ pub mod Address
 pub mod Drives
 pub mod Errors
 pub mod Functions
-pub mod Laws
 pub mod Memory
 pub mod Place
 pub mod Registers
@@ -11,3 +10,6 @@ pub mod Sector
 pub mod Starts
 pub mod State
 pub mod View
+pub mod Kept
+pub mod Laws
+pub mod Calls

@@ -1,5 +1,5 @@
 -- The disk address register, RKDA: a drive, and a place on it.
-use Rattle.std.specs.Prelude.{ℕ, ◌+◌, ◌*◌, ◌/◌, ◌%◌, Bool, ◌==◌, ◌&&◌, nat_lt, if◌then◌else◌}
+use Rattle.std.specs.Prelude.{ℕ, ◌+◌, ◌*◌, ◌/◌, ◌%◌, ◌==◌, nat_lt, if◌then◌else◌}
 
 -- An RK05 has 203 cylinders of 2 surfaces of 12 sectors; the register has room for cylinders to 255
 -- and sectors to 15, and for drives to 7.
@@ -17,17 +17,9 @@ place_of_word word =
 unfoldable pub word_of_place : Place → ℕ
 word_of_place p = p.drive * 0o20000 + p.cylinder * 0o40 + p.surface * 0o20 + p.sector
 
--- sectors are numbered 0 to 11 and cylinders 0 to 202
-unfoldable pub is_on_disk : Place → Bool
-is_on_disk p = nat_lt p.sector 12 && nat_lt p.cylinder 203
-
 -- the number of a sector on its drive, 0 to 4,871
 unfoldable pub sector_number : Place → ℕ
 sector_number p = (p.cylinder * 2 + p.surface) * 12 + p.sector
-
--- the place of a sector of a drive, by its number
-unfoldable pub place_of_number : ℕ → ℕ → Place
-place_of_number drive n = record { drive = drive; cylinder = n / 24; surface = n / 12 % 2; sector = n % 12 }
 
 -- the next sector of the track, else the first of the other surface, else the first of the next cylinder
 unfoldable pub next_place : Place → Place

@@ -1,7 +1,6 @@
 -- The controller with its drives, and what is seen of it between acts.
-use Rattle.std.specs.Prelude.{ℕ, ◌<◌, ◌≤◌, zero, suc, ◌+◌, ◌*◌, ◌%◌, min, nat_lt, Bool, false, not, ◌==◌, ◌&&◌, ◌||◌, List, Option, Some, None, is_some, slice_index_or, slice_set, replicate, map, if◌then◌else◌}
+use Rattle.std.specs.Prelude.{ℕ, zero, suc, ◌+◌, ◌*◌, ◌%◌, min, nat_lt, Bool, false, not, ◌==◌, ◌&&◌, ◌||◌, List, Option, Some, None, is_some, slice_index_or, slice_set, replicate, map, if◌then◌else◌}
 use Rattle.p11_overlay.specs.Drive.{Contents}
-use Rattle.p11_rk11.specs.declared.controller.Heads.{Heads}
 use Rattle.p11_rk11.specs.declared.mounted.PendingSeek.{PendingSeek}
 use Rattle.p11_rk11.specs.declared.register.Register.{Register}
 use Rattle.p11_rk11.specs.declared.register.Register.TheVariants as register
@@ -72,16 +71,6 @@ unfoldable pub seek_due : Option MountedDrive → Option ℕ
 seek_due None = None
 seek_due (Some drive) = seek_turn drive.seek
 
--- a turn comes before a due turn, if there is one
-abbrev pub IsBefore : ℕ → Option ℕ → Type 0
-IsBefore turn None = Unit {0}
-IsBefore turn (Some due) = turn < due
-
--- a turn does not come after a due turn, if there is one
-abbrev pub IsNotAfter : ℕ → Option ℕ → Type 0
-IsNotAfter turn None = Unit {0}
-IsNotAfter turn (Some due) = turn ≤ due
-
 -- the earlier of two due turns
 unfoldable pub earlier : Option ℕ → Option ℕ → Option ℕ
 earlier None due = due
@@ -100,11 +89,6 @@ disk_due s = due_among drive_count s
 -- A drive is busy while it seeks or the running transfer is on it.
 unfoldable pub is_busy : ℕ → Rk11State → Bool
 is_busy n s = is_some (seek_due (drive_of s n)) || (is_some s.registers.transfer && s.registers.disk_address.drive == n)
-
--- where a drive's heads are, and when its seek is due
-abbrev pub heads_at : Option MountedDrive → Option Heads
-heads_at None = None
-heads_at (Some drive) = Some (record { cylinder = drive.cylinder; due = seek_turn drive.seek })
 
 -- what the pack of a drive holds
 abbrev pub contents_of : Option MountedDrive → Option Contents

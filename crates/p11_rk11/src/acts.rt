@@ -1,10 +1,12 @@
 //! The acts of a turn: the memory that they may need, the transfer's sector, and the seeks that are done.
 ghost use Rattle.std.specs.Prelude.{◌≡◌, ◌<◌, ◌≤◌, ◌^◌, ◌+◌, true, false, OnOk, OnErr, IsOk};
 ghost use Rattle.p11_rk11.specs.Acts.{disk_after_turn, after_sector_on, disk_and_memory_with, disk_after_transfer, stores_of, disk_after_seek, disk_after_seeks};
-ghost use Rattle.p11_rk11.specs.Place.{is_on_disk, sector_number};
+ghost use Rattle.p11_rk11.specs.Calls.Places.{is_on_disk};
+ghost use Rattle.p11_rk11.specs.Place.{sector_number};
 ghost use Rattle.p11_rk11.specs.Registers.{is_due};
 ghost use Rattle.p11_rk11.specs.State.{selected, drive_count};
-ghost use Rattle.p11_rk11.specs.View.{IsPreparedFor, KeepsPrepared, IsPreparedSector, needs_memory, write_is_due, is_listed};
+ghost use Rattle.p11_rk11.specs.Kept.View.{IsPreparedFor, KeepsPrepared, IsPreparedSector};
+ghost use Rattle.p11_rk11.specs.View.{needs_memory, write_is_due, is_listed};
 
 use crate::bay;
 use crate::controller::{DRIVES, Rk11};

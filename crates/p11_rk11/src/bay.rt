@@ -3,10 +3,13 @@ ghost use Rattle.std.specs.Prelude.{◌≡◌, ℕ, ◌+◌, ◌<◌, ◌≤◌,
 ghost use Rattle.std.specs.List.{list_any};
 ghost use Rattle.p11_rk11.specs.Acts.{after_seek_on, after_sector_on};
 ghost use Rattle.p11_rk11.specs.Functions.{is_write};
-ghost use Rattle.p11_rk11.specs.Place.{is_on_disk, sector_number};
+ghost use Rattle.p11_rk11.specs.Calls.Places.{is_on_disk};
+ghost use Rattle.p11_rk11.specs.Place.{sector_number};
 ghost use Rattle.p11_rk11.specs.Starts.{after_start_on};
-ghost use Rattle.p11_rk11.specs.State.{contents_of, heads_at, seek_due, status_of, drive_after_init};
-ghost use Rattle.p11_rk11.specs.View.{visible_drive, prepared_sectors, contents_lent, IsPreparedDrive, is_listed};
+ghost use Rattle.p11_rk11.specs.State.{contents_of, seek_due, status_of, drive_after_init};
+ghost use Rattle.p11_rk11.specs.Calls.Heads.{heads_at};
+ghost use Rattle.p11_rk11.specs.Kept.View.{visible_drive, prepared_sectors, contents_lent, IsPreparedDrive};
+ghost use Rattle.p11_rk11.specs.View.{is_listed};
 
 use crate::controller::Heads;
 use crate::errors::Failure;

@@ -1,7 +1,8 @@
 //! The controller with its drives: what its registers show, writes of them, INIT, and the packs.
 ghost use Rattle.std.specs.Prelude.{◌≡◌, ◌<◌, ◌≤◌, ◌^◌, ◌+◌, ◌*◌, Some, is_some, true, false, option_copied, slice_set, [], replicate};
 ghost use Rattle.p11_rk11.specs.Starts.{disk_after_write, disk_after_control_write, disk_after_value_write, disk_after_go, disk_after_start, after_start_on};
-ghost use Rattle.p11_rk11.specs.State.{new_disk, disk_word, drive_of, selected, with_drive, with_registers_and_drive, disk_due, seek_due, is_busy, contents_of, heads_at, disk_after_init, disk_after_mount, disk_after_unmount, drive_count, drive_after_init, disk_after_service, status_of, earlier};
+ghost use Rattle.p11_rk11.specs.State.{new_disk, disk_word, drive_of, selected, with_drive, with_registers_and_drive, disk_due, seek_due, is_busy, contents_of, disk_after_init, disk_after_mount, disk_after_unmount, drive_count, drive_after_init, disk_after_service, status_of, earlier};
+ghost use Rattle.p11_rk11.specs.Calls.Heads.{heads_at};
 
 use crate::bay;
 use crate::drives::Drives;
@@ -34,9 +35,9 @@ pub struct Rk11<A: Allocator = Global> {
 
 impl<A: Allocator> Model for Rk11<A> {
     ghost use Rattle.std.specs.Prelude.{◌≡◌, length};
-    ghost use Rattle.p11_rk11.specs.Laws.{TransferHasPlace};
+    ghost use Rattle.p11_rk11.specs.Laws.Registers.{TransferHasPlace};
     ghost use Rattle.p11_rk11.specs.State.{drive_count};
-    ghost use Rattle.p11_rk11.specs.View.{Rk11View, view_of};
+    ghost use Rattle.p11_rk11.specs.Kept.View.{Rk11View, view_of};
 
     ghost Value = { Rk11View };
 
@@ -46,7 +47,7 @@ impl<A: Allocator> Model for Rk11<A> {
 }
 
 impl<A: Allocator> Rk11<A> {
-    ghost use Rattle.p11_rk11.specs.View.{contents_lent};
+    ghost use Rattle.p11_rk11.specs.Kept.View.{contents_lent};
 
     /// A controller with no drive mounted.
     #[tactic(auto, unfolding(crate::specs::State::new_disk))]

@@ -37,7 +37,7 @@ impl<A: Allocator> Drop for Drives<A> {
 
 impl<A: Allocator> Model for Drives<A> {
     ghost use Rattle.std.specs.Prelude.{List, Option, ◌∷◌, []};
-    ghost use Rattle.p11_rk11.specs.Drives.{MountedState};
+    ghost use Rattle.p11_rk11.specs.Kept.View.{MountedState};
 
     ghost Value = { List (Option MountedState) };
 

@@ -1,14 +1,17 @@
 //! A drive with its pack and its heads.
 ghost use Rattle.std.specs.Prelude.{◌≡◌, ℕ, ◌+◌, ◌<◌, ◌≤◌, ◌^◌, Some, None, true, false, IsTrue, IsOk, OnOk, OnErr, nat_eq};
 ghost use Rattle.std.specs.List.{list_any};
-ghost use Rattle.p11_rk11.specs.Drives.{MountedDrive, MountedState};
+ghost use Rattle.p11_rk11.specs.Drives.{MountedDrive};
+ghost use Rattle.p11_rk11.specs.Kept.View.{MountedState};
 ghost use Rattle.p11_rk11.specs.Acts.{contents_after_sector, drive_after_sector, memory_after_sector, differs, is_refused, after_sector, drive_after_arrival, addresses};
 ghost use Rattle.p11_rk11.specs.Functions.{is_write, uses_memory, uses_place};
 ghost use Rattle.p11_rk11.specs.Memory.{all_held};
 ghost use Rattle.p11_rk11.specs.Registers.{words_moved};
-ghost use Rattle.p11_rk11.specs.Place.{is_on_disk, sector_number};
+ghost use Rattle.p11_rk11.specs.Calls.Places.{is_on_disk};
+ghost use Rattle.p11_rk11.specs.Place.{sector_number};
 ghost use Rattle.p11_rk11.specs.Starts.{drive_check, seeking, drive_after_begin, registers_after_begin, after_start, arrival};
-ghost use Rattle.p11_rk11.specs.State.{drive_status, seek_turn, heads_at, drive_after_mount};
+ghost use Rattle.p11_rk11.specs.State.{drive_status, seek_turn, drive_after_mount};
+ghost use Rattle.p11_rk11.specs.Calls.Heads.{heads_at};
 
 use crate::controller::Heads;
 use crate::errors::{Failure, flag};
@@ -39,7 +42,7 @@ pub(crate) struct Mounted<A: Allocator = Global> {
 }
 
 impl<A: Allocator> Model for Mounted<A> {
-    ghost use Rattle.p11_rk11.specs.Drives.{MountedState};
+    ghost use Rattle.p11_rk11.specs.Kept.View.{MountedState};
 
     ghost Value = { MountedState };
 
@@ -106,7 +109,7 @@ impl<A: Allocator> Mounted<A> {
     }
 
     /// The first check at GO that holds.
-    #[tactic(auto, unfolding(crate::specs::Starts::drive_check, crate::specs::Place::is_on_disk))]
+    #[tactic(auto, unfolding(crate::specs::Starts::drive_check, crate::specs::Calls::Places::is_on_disk))]
     pub(crate) fn check(&self, registers: &Registers) -> Option<Failure>
         ensures failure { result ≡ drive_check registers.now self.now.visible }
         ensures place { result ≡ None → uses_place registers.now.function ≡ true

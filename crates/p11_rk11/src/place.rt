@@ -1,5 +1,6 @@
 ghost use Rattle.std.specs.Prelude.{◌≡◌, ◌<◌, ◌^◌, true};
-ghost use Rattle.p11_rk11.specs.Place.{place_of_word, word_of_place, is_on_disk, sector_number, next_place};
+ghost use Rattle.p11_rk11.specs.Place.{place_of_word, word_of_place, sector_number, next_place};
+ghost use Rattle.p11_rk11.specs.Calls.Places.{is_on_disk};
 
 use std::marker::Model;
 
@@ -129,7 +130,7 @@ impl DiskAddress {
     }
 
     /// The cylinder of a place on the pack.
-    #[tactic(auto, unfolding(crate::specs::Place::is_on_disk))]
+    #[tactic(auto, unfolding(crate::specs::Calls::Places::is_on_disk))]
     pub(crate) fn cylinder_on_disk(self) -> Cylinder
         requires { is_on_disk self ≡ true }
         ensures { result ≡ self.cylinder }
@@ -144,7 +145,7 @@ impl DiskAddress {
     }
 
     /// Whether the pack has such a sector.
-    #[tactic(auto, unfolding(crate::specs::Place::is_on_disk))]
+    #[tactic(auto, unfolding(crate::specs::Calls::Places::is_on_disk))]
     pub(crate) fn is_on_disk(self) -> bool
         ensures { result ≡ is_on_disk self }
     {
@@ -155,7 +156,7 @@ impl DiskAddress {
     }
 
     /// The sector's number on its drive.
-    #[tactic(auto, unfolding(crate::specs::Place::is_on_disk, crate::specs::Place::sector_number))]
+    #[tactic(auto, unfolding(crate::specs::Calls::Places::is_on_disk, crate::specs::Place::sector_number))]
     pub(crate) fn sector_number(self) -> u16
         requires { is_on_disk self ≡ true }
         ensures value { result ≡ sector_number self }
@@ -165,7 +166,7 @@ impl DiskAddress {
     }
 
     /// The next sector: of the track, else of the other surface, else of the next cylinder.
-    #[tactic(auto, unfolding(crate::specs::Place::is_on_disk, crate::specs::Place::next_place))]
+    #[tactic(auto, unfolding(crate::specs::Calls::Places::is_on_disk, crate::specs::Place::next_place))]
     pub(crate) fn next(self) -> DiskAddress
         requires { is_on_disk self ≡ true }
         ensures { result ≡ next_place self }

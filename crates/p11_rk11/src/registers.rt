@@ -1,7 +1,7 @@
 //! The controller's registers as their parts, and what each event makes of them.
 ghost use Rattle.std.specs.Prelude.{◌≡◌, ◌<◌, ◌≤◌, ◌+◌, ◌^◌, Some, None, is_some, true, false};
 ghost use Rattle.p11_rk11.specs.Acts.{registers_after_seek};
-ghost use Rattle.p11_rk11.specs.Place.{is_on_disk};
+ghost use Rattle.p11_rk11.specs.Calls.Places.{is_on_disk};
 ghost use Rattle.p11_rk11.specs.Starts.{registers_cleared_by_go, registers_with_value};
 ghost use Rattle.p11_rk11.specs.Registers.{is_due, cleared_registers, control_word, low_bits, high_bits, with_enable, enable_rises, with_control, words_left, words_moved, ended, failed, requested, counters_advanced, with_difference, next_sector_or_end, registers_after_sector, is_ready};
 

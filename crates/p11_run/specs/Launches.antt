@@ -2,7 +2,7 @@
 use Rattle.std.specs.Prelude.{◌≡◌, ℕ, List, Option, unwrap_or, codes, Ok}
 use Rattle.clap.specs.Words.{Row}
 use Rattle.p11_arguments.specs.CommandLine.{number_in}
-use Rattle.p11_panel.specs.Sizes.{Sizes, sizes_of}
+use Rattle.p11_panel.specs.Calls.Sizes.{Sizes, sizes_of}
 
 -- thousands of words and decoded words, 28 and 1,024 where they aren't given
 abbrev pub AsksFor : Option ℕ → Option ℕ → Sizes → Type 0

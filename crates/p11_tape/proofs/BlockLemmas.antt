@@ -2,9 +2,9 @@
 use Rattle.std.proofs.Common.{◌≡◌, ℕ, suc, zero, ◌<◌, ◌≤◌, ◌+◌, ◌-◌, ◌*◌, ◌/◌, ◌%◌, ◌^◌, List, [], ◌∷◌, ◌++◌, length, take, drop, get_or, sum, None, false, ltb, refl, sym, ap, arith, ◌∙◌, eq-eqb}
 use Rattle.std.proofs.lemmas.Bool.{and_right, le-ltb, lt-leb}
 use Rattle.std.proofs.lemmas.List.{length-append, take_at, length-take-le}
-use Rattle.p11_tape.specs.Block.{Block, block_bytes, before_checksum, IsBlock}
+use Rattle.p11_tape.specs.Laws.Block.{Block, block_bytes, before_checksum, IsBlock}
 use Rattle.p11_tape.specs.Fault.{wrong_of, count_at, address_at}
-use Rattle.p11_tape.specs.Begins.{IsWhole}
+use Rattle.p11_tape.specs.Calls.Begins.{IsWhole}
 
 -- each element is a byte
 abbrev pub IsBytes : List ℕ → Type 0

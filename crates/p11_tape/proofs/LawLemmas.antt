@@ -6,11 +6,11 @@ use Rattle.std.proofs.lemmas.Bool.{eqb-true, ltb-false, leb-false, or_parts, not
 use Rattle.std.proofs.lemmas.List.{append-nil, append_assoc, drop_at, take_at, length-append, length-drop, length-take-le, get_or-drop, get_or_past}
 use Rattle.p11_tape.specs.declared.fault.TapeFault.{TapeFault}
 use Rattle.p11_tape.specs.declared.fault.TapeFaultKind.TheVariants.{Memory, Stray, Count, Short, Wrap, Sum}
-use Rattle.p11_tape.specs.Block.{Block, block_bytes, before_checksum, placed_by, IsDataBlock, IsLastBlock}
-use Rattle.p11_tape.specs.Tape.{IsFront, IsEnd, Means, start_by}
+use Rattle.p11_tape.specs.Laws.Block.{Block, block_bytes, before_checksum, placed_by, IsDataBlock, IsLastBlock}
+use Rattle.p11_tape.specs.Laws.Tape.{IsFront, IsEnd, Means, start_by}
 use Rattle.p11_tape.specs.Fault.{wrong_of, count_at, address_at}
 use Rattle.p11_tape.specs.Reading.{Meaning, reading, read_on, block_read, and_then, end_with, placed_at, start_of}
-use Rattle.p11_tape.specs.Begins.{IsWhole, NoZeroFirst}
+use Rattle.p11_tape.specs.Calls.Begins.{IsWhole, NoZeroFirst}
 use Rattle.p11_tape.proofs.BlockLemmas.{IsBytes, Splits, block_there, nothing_wrong, first_of_block, length-block_bytes, count_at-block, address_at-block, whole_block}
 use Rattle.p11_tape.proofs.ReadLemmas.{same_meaning, and_then_nothing, and_then_more, zeros_read, last_read, data_read, wrong_read, last_of, other_of, ended}
 

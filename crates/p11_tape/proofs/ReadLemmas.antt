@@ -6,7 +6,7 @@ use Rattle.std.proofs.lemmas.List.{append_assoc, append-nil, length-append, leng
 use Rattle.p11_tape.specs.declared.fault.TapeFault.{TapeFault}
 use Rattle.p11_tape.specs.Fault.{wrong_of, count_at, address_at}
 use Rattle.p11_tape.specs.Reading.{Meaning, reading, read_on, block_read, and_then, end_with, placed_at, start_of}
-use Rattle.p11_tape.specs.Begins.{NoZeroFirst, BeginsWith, BeginsWithZeros, IsWhole}
+use Rattle.p11_tape.specs.Calls.Begins.{NoZeroFirst, BeginsWith, BeginsWithZeros, IsWhole}
 
 pub same_meaning : (p q : List (ℕ × ℕ)) (s t : Option ℕ) → p ≡ q → s ≡ t → ◌≡◌ {A = Result Meaning TapeFault} (Ok (record { placed = p; start = s })) (Ok (record { placed = q; start = t }))
 same_meaning p q s t e f = cc

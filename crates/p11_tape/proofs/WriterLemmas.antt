@@ -5,10 +5,10 @@ use Rattle.std.specs.List.{flat_map, enumerate_from}
 use Rattle.std.proofs.lemmas.List.{append_assoc}
 use Rattle.std.proofs.lemmas.List.Elements.{All-head, All-tail}
 use Rattle.std.proofs.lemmas.List.Sums.{fold-append}
-use Rattle.p11_tape.specs.Block.{Block, block_bytes, before_checksum, IsBlock, IsDataBlock, IsLastBlock, placed_by}
+use Rattle.p11_tape.specs.Laws.Block.{Block, block_bytes, before_checksum, IsBlock, IsDataBlock, IsLastBlock, placed_by}
 use Rattle.p11_tape.specs.Reading.{reading, start_of}
-use Rattle.p11_tape.specs.Tape.{IsFront}
-use Rattle.p11_tape.specs.Writer.{Piece, IsPiece, piece_bytes, written, pieces_placed, made_block, checksum_of}
+use Rattle.p11_tape.specs.Laws.Tape.{IsFront}
+use Rattle.p11_tape.specs.Laws.Writer.{Piece, IsPiece, piece_bytes, written, pieces_placed, made_block, checksum_of}
 use Rattle.p11_tape.proofs.LawLemmas.{means_read}
 
 -- A front stays one whatever follows its rest.

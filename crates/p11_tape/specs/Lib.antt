@@ -1,6 +1,4 @@
-pub mod Block
 pub mod Fault
 pub mod Reading
-pub mod Tape
-pub mod Writer
-pub mod Begins
+pub mod Calls
+pub mod Laws

@@ -1,7 +1,7 @@
 // One block of a tape, and the zeros between blocks.
 ghost use Rattle.std.specs.Prelude.{◌≡◌, ◌≢◌, ◌+◌, ◌-◌, ◌*◌, ◌%◌, ◌<◌, ◌≤◌, ◌^◌, ℕ, List, length, sum, slice_index, replicate, ◌++◌, Some, None, IfOk, IfErr};
 ghost use Rattle.p11_tape.specs.Fault.{fault, wrong_of, word_at, count_at};
-ghost use Rattle.p11_tape.specs.Begins.{BeginsWith, BeginsWithZeros, IsWhole};
+ghost use Rattle.p11_tape.specs.Calls.Begins.{BeginsWith, BeginsWithZeros, IsWhole};
 
 use crate::fault::{TapeFault, TapeFaultKind};
 use byteorder::{ByteOrder, LittleEndian};

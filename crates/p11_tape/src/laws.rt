@@ -1,9 +1,9 @@
 // Laws of the grammar.
 ghost use Rattle.std.specs.Prelude.{◌≡◌, ℕ, ◌<◌, ◌^◌, ◌++◌, List, None, Ok, [], All};
-ghost use Rattle.p11_tape.specs.Block.{Block, block_bytes, IsLastBlock};
+ghost use Rattle.p11_tape.specs.Laws.Block.{Block, block_bytes, IsLastBlock};
 ghost use Rattle.p11_tape.specs.Reading.{Meaning, reading, start_of};
-ghost use Rattle.p11_tape.specs.Tape.{IsFront, Means};
-ghost use Rattle.p11_tape.specs.Writer.{Piece, IsPiece, written, pieces_placed, made_block};
+ghost use Rattle.p11_tape.specs.Laws.Tape.{IsFront, Means};
+ghost use Rattle.p11_tape.specs.Laws.Writer.{Piece, IsPiece, written, pieces_placed, made_block};
 
 /// What the bytes of a tape are read as is what the grammar gives them to mean, and what it gives them to mean is what
 /// they are read as. So they have one meaning, and bytes with a fault have none.

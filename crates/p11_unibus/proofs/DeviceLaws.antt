@@ -1,12 +1,12 @@
 -- A console line is due in later turns alone, once it has acted in a turn.
 use Rattle.std.proofs.Common.{rules, ℕ, ◌∷◌, [], arith}
 use Rattle.std.proofs.lemmas.Grind.{common_steps}
-use Rattle.p11_dl11.specs.DueTurns.{IsBefore, IsNotAfter}
+use Rattle.p11_dl11.specs.Laws.DueTurns.{IsBefore, IsNotAfter}
 use Rattle.p11_dl11.specs.LineState.{LineState}
 use Rattle.p11_dl11.specs.LineEvents.{line_after_turn}
 use Rattle.p11_dl11.specs.ReceiverEvents.{receiver_after_turn, receiver_due}
 use Rattle.p11_dl11.specs.TransmitterEvents.{transmitter_after_turn, transmitter_due, typed_in}
-use Rattle.p11_unibus.specs.Device.{AfterNone, BeforeEach}
+use Rattle.p11_unibus.specs.Kept.Devices.{AfterNone, BeforeEach}
 
 receiver_later : (turn : ℕ) (l : LineState) → IsBefore turn (receiver_due turn (line_after_turn turn l).receiver)
 unfolding line_after_turn receiver_after_turn receiver_due

@@ -2,16 +2,14 @@
 -- there leaves, and what a read leaves. All that references of a program and of the operator do follows from these
 -- three. They are told the number of the turn, since a device's register may show it. An odd address holds no word, so
 -- it answers nowhere.
-use Rattle.std.specs.Prelude.{ℕ, Bool, true, false, Option, Some, None, is_some, Result, Ok, Err, ◌==◌, if◌then◌else◌}
+use Rattle.std.specs.Prelude.{ℕ, Bool, true, false, Option, Some, None, Result, Ok, Err, if◌then◌else◌}
 use Rattle.p11_kw11.specs.LineClock.{clock_word, clock_after_write}
 use Rattle.p11_dl11.specs.LineEvents.{line_word, line_after_read, line_after_write}
 use Rattle.p11_rk11.specs.Memory.{has_word, word_at, stored}
 use Rattle.p11_rk11.specs.Starts.{disk_after_write}
 use Rattle.p11_rk11.specs.State.{disk_word}
-use Rattle.p11_unibus.specs.declared.bytes.TimeOut.{TimeOut}
 use Rattle.p11_unibus.specs.declared.register.Register.{Register}
 use Rattle.p11_unibus.specs.declared.register.Register.TheVariants.{Clock, Line, Disk, Switches}
-use Rattle.p11_unibus.specs.Bytes.{even, byte_at, with_byte}
 use Rattle.p11_unibus.specs.Registers.{register_at}
 use Rattle.p11_unibus.specs.State.{BusState}
 
@@ -57,10 +55,6 @@ read_there (Some r) b = register_after_read r b
 unfoldable pub see : ℕ → ℕ → BusState → Option ℕ
 see turn pa b = if has_word b.memory pa then Some (word_at b.memory pa) else word_there turn (register_at pa) b
 
--- the bus once a word is stored at an address of memory
-abbrev pub with_word : ℕ → ℕ → BusState → BusState
-with_word pa word b = record b { memory = stored b.memory pa word }
-
 -- the bus once a word is written at an address in this turn; where nothing answers it stays
 unfoldable pub change : ℕ → ℕ → ℕ → BusState → BusState
 change turn pa word b =
@@ -70,10 +64,6 @@ change turn pa word b =
 -- the bus once the word at an address is read; where nothing answers it stays
 unfoldable pub after_read : ℕ → BusState → BusState
 after_read pa b = if has_word b.memory pa then b else read_there (register_at pa) b
-
--- whether a word shows at an address in this turn
-unfoldable pub answers : ℕ → ℕ → BusState → Bool
-answers turn pa b = is_some (see turn pa b)
 
 -- REFERENCES
 
@@ -87,38 +77,11 @@ abbrev pub answered_or : {E : Type 0} → E → Bool → Result (Unit {0}) E
 answered_or fault true = Ok tt
 answered_or fault false = Err fault
 
--- the half of a word that was read that stands at an address
-abbrev pub half_of : {S E : Type 0} → ℕ → S × Result ℕ E → S × Result ℕ E
-half_of pa (s, Ok word) = (s, Ok (byte_at pa word))
-half_of pa (s, Err fault) = (s, Err fault)
-
 -- the state after a word is put in the place of the one that shows, or the fault and no change
 abbrev pub replaced_or : {S E : Type 0} → E → Option ℕ → (ℕ → S) → S → S × Result (Unit {0}) E
 replaced_or fault (Some word) after s = (after word, Ok tt)
 replaced_or fault None after s = (s, Err fault)
 
-abbrev pub time_out : TimeOut
-time_out = record {}
-
--- a read of the word at an address
-unfoldable pub read_word_of : ℕ → ℕ → BusState → BusState × Result ℕ TimeOut
-read_word_of turn pa b = (after_read pa b, shown_or time_out (see turn pa b))
-
--- a write of a word at an address
-unfoldable pub write_word_of : ℕ → ℕ → ℕ → BusState → BusState × Result (Unit {0}) TimeOut
-write_word_of turn pa word b = (change turn pa word b, answered_or time_out (answers turn pa b))
-
--- a read of a byte: half of the word that is read
-unfoldable pub read_byte_of : ℕ → ℕ → BusState → BusState × Result ℕ TimeOut
-read_byte_of turn pa b = half_of pa (read_word_of turn (even pa) b)
-
 -- the high byte of the transmitter buffer
 abbrev pub transmitter_high_byte : ℕ
 transmitter_high_byte = 0o777567
-
--- A write of a byte: the word that shows is written with that byte replaced. At the high byte of the transmitter buffer
--- it is answered and does nothing, so that no character is sent.
-unfoldable pub write_byte_of : ℕ → ℕ → ℕ → BusState → BusState × Result (Unit {0}) TimeOut
-write_byte_of turn pa byte b =
-    if pa == transmitter_high_byte then (b, Ok tt)
-    else replaced_or time_out (see turn (even pa) b) (λ word. change turn (even pa) (with_byte pa byte word) b) b

@@ -6,9 +6,9 @@ pub mod Bus
 pub mod Written
 pub mod Acts
 pub mod Requests
-pub mod Quiet
 pub mod Events
 pub mod Prepared
-pub mod Device
 pub mod Devices
+pub mod Calls
+pub mod Kept
 pub mod Laws

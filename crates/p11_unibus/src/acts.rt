@@ -2,11 +2,12 @@
 //! asks no device, and one in which the clock alone is due asks no other.
 ghost use Rattle.std.specs.Prelude.{◌≡◌, ◌<◌, ◌≤◌, ◌^◌, [], true, false, OnOk, IsOk};
 ghost use Rattle.p11_rk11.specs.Acts.{stores_of};
-ghost use Rattle.p11_rk11.specs.View as disks;
+ghost use Rattle.p11_rk11.specs.Kept.View as disks;
 ghost use Rattle.p11_unibus.specs.Acts.{bus_after_clock, bus_after_disk, bus_after_line, bus_after_turn};
-ghost use Rattle.p11_unibus.specs.Due.{comes_before, nearest_of};
-ghost use Rattle.p11_unibus.specs.Prepared.{IsPreparedFor, disk_view, needs_memory, types_in};
-ghost use Rattle.p11_unibus.specs.Written.{ChangedOnly};
+ghost use Rattle.p11_unibus.specs.Kept.Due.{comes_before, nearest_of};
+ghost use Rattle.p11_unibus.specs.Kept.Prepared.{IsPreparedFor, disk_view};
+ghost use Rattle.p11_unibus.specs.Prepared.{needs_memory, types_in};
+ghost use Rattle.p11_unibus.specs.Kept.Written.{ChangedOnly};
 
 use crate::due::{look_ahead, look_from};
 use crate::laws::the_acts_write_words_of_a_disk_read_alone;

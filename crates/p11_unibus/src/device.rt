@@ -1,6 +1,6 @@
 ghost use Rattle.std.specs.Prelude.{◌≡◌, ◌∷◌, [], ℕ, Bool, List, Option, is_some};
 ghost use Rattle.p11_rk11.specs.Memory.{Words};
-ghost use Rattle.p11_unibus.specs.Device.{AfterNone, BeforeEach};
+ghost use Rattle.p11_unibus.specs.Kept.Devices.{AfterNone, BeforeEach};
 ghost use Rattle.p11_unibus.specs.Written.{is_listed};
 
 use p11_dl11::Dl11;

@@ -3,12 +3,14 @@ ghost use Rattle.p11_unibus.specs.Acts.{bus_after_turn, is_any_due};
 ghost use Rattle.p11_rk11.specs.Acts.{stores_of};
 ghost use Rattle.p11_rk11.specs.Memory.{has_word};
 ghost use Rattle.p11_unibus.specs.Bytes.{byte_at, with_byte};
-ghost use Rattle.p11_unibus.specs.Bus.{answers};
-ghost use Rattle.p11_unibus.specs.Due.{acts_in, next_due, IsNextDue, NoneLater};
-ghost use Rattle.p11_unibus.specs.Laws.{GrantsNoneLower, ShowsThere, StaysElsewhere};
+ghost use Rattle.p11_unibus.specs.Calls.References.{answers};
+ghost use Rattle.p11_unibus.specs.Laws.Due.{acts_in, IsNextDue, NoneLater};
+ghost use Rattle.p11_unibus.specs.Due.{next_due};
+ghost use Rattle.p11_unibus.specs.Laws.Words.{GrantsNoneLower, ShowsThere, StaysElsewhere};
 ghost use Rattle.p11_unibus.specs.Registers.{register_at};
-ghost use Rattle.p11_unibus.specs.State.{BusState, io_page, new_memory};
-ghost use Rattle.p11_unibus.specs.Written.{ChangedOnly};
+ghost use Rattle.p11_unibus.specs.State.{BusState, new_memory};
+ghost use Rattle.p11_unibus.specs.Laws.Memory.{io_page};
+ghost use Rattle.p11_unibus.specs.Kept.Written.{ChangedOnly};
 
 use crate::source::Source;
 use p11_psw::Priority;
@@ -34,7 +36,7 @@ pub fn a_byte_is_read_back(address: u32, byte: u16, word: u16)
 {}
 
 /// An odd address answers nowhere.
-#[tactic(auto, unfolding(crate::specs::Bus::answers, crate::specs::Bus::see, p11_rk11::specs::Memory::has_word, crate::specs::Registers::register_at, p11_kw11::specs::LineClock::register_at, p11_dl11::specs::Addresses::register_at, p11_rk11::specs::Registers::register_at))]
+#[tactic(auto, unfolding(crate::specs::Calls::References::answers, crate::specs::Bus::see, p11_rk11::specs::Memory::has_word, crate::specs::Registers::register_at, p11_kw11::specs::LineClock::register_at, p11_dl11::specs::Addresses::register_at, p11_rk11::specs::Registers::register_at))]
 pub fn an_odd_address_answers_nowhere(turn: u64, address: u32)
     requires { address % 2 ≡ 1 }
     ensures { (b : BusState) → answers turn address b ≡ false }

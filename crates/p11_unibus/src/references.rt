@@ -1,6 +1,7 @@
 ghost use Rattle.std.specs.Prelude.{◌≡◌, ◌==◌, ◌≤◌, ◌<◌, ◌^◌, length};
-ghost use Rattle.p11_unibus.specs.Bus.{transmitter_high_byte, read_byte_of, read_word_of, write_byte_of, write_word_of};
-ghost use Rattle.p11_unibus.specs.Written.{noted, noted_byte};
+ghost use Rattle.p11_unibus.specs.Bus.{transmitter_high_byte};
+ghost use Rattle.p11_unibus.specs.Calls.References.{read_byte_of, read_word_of, write_byte_of, write_word_of};
+ghost use Rattle.p11_unibus.specs.Kept.Written.{noted, noted_byte};
 
 use crate::bytes::{TimeOut, byte_of, even_address, replace_byte};
 use crate::unibus::Unibus;
@@ -18,7 +19,7 @@ pub fn is_transmitter_high_byte(address: u32) -> bool
 
 impl<A: Allocator> Unibus<A> {
     /// Reads the word at an address in this turn.
-    #[tactic(auto, unfolding(crate::specs::Bus::read_word_of))]
+    #[tactic(auto, unfolding(crate::specs::Calls::References::read_word_of))]
     pub fn read_word(&mut self, turn: u64, address: u32) -> Result<u16, TimeOut>
         requires { turn ≤ 2 ^ 62 }
         ensures outcome { read_word_of turn address self.old.visible ≡ (self.new.visible, result) }
@@ -32,7 +33,7 @@ impl<A: Allocator> Unibus<A> {
     }
 
     /// Writes a word at an address in this turn.
-    #[tactic(auto, unfolding(crate::specs::Bus::write_word_of))]
+    #[tactic(auto, unfolding(crate::specs::Calls::References::write_word_of))]
     pub fn write_word(&mut self, turn: u64, address: u32, word: u16) -> Result<(), TimeOut>
         requires turn { turn ≤ 2 ^ 62 }
         requires room { length self.old.written < 272 }
@@ -47,7 +48,7 @@ impl<A: Allocator> Unibus<A> {
     }
 
     /// Reads the byte at an address in this turn: half of the word that is read.
-    #[tactic(auto, unfolding(crate::specs::Bus::read_byte_of))]
+    #[tactic(auto, unfolding(crate::specs::Calls::References::read_byte_of))]
     pub fn read_byte(&mut self, turn: u64, address: u32) -> Result<u16, TimeOut>
         requires { turn ≤ 2 ^ 62 }
         ensures outcome { read_byte_of turn address self.old.visible ≡ (self.new.visible, result) }
@@ -62,7 +63,7 @@ impl<A: Allocator> Unibus<A> {
 
     /// Writes a byte, the low one of `byte`, at an address in this turn: the word that shows there, with that byte
     /// replaced. At 777567, the high byte of the transmitter buffer, it is answered and does nothing.
-    #[tactic(auto, unfolding(crate::specs::Bus::write_byte_of, crate::specs::Bus::see, crate::specs::Written::noted, crate::specs::Written::noted_byte))]
+    #[tactic(auto, unfolding(crate::specs::Calls::References::write_byte_of, crate::specs::Bus::see, crate::specs::Kept::Written::noted, crate::specs::Kept::Written::noted_byte))]
     pub fn write_byte(&mut self, turn: u64, address: u32, byte: u16) -> Result<(), TimeOut>
         requires turn { turn ≤ 2 ^ 62 }
         requires room { length self.old.written < 272 }

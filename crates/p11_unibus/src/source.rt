@@ -1,5 +1,5 @@
 ghost use Rattle.std.specs.Prelude.{◌≡◌, Some};
-ghost use Rattle.p11_psw.specs.Vectors.{vector_level};
+ghost use Rattle.p11_psw.specs.Calls.Levels.{vector_level};
 ghost use Rattle.p11_unibus.specs.Requests.{source_level, source_vector};
 
 use p11_psw::{Priority, Vector};

@@ -14,7 +14,7 @@ pub(crate) struct Typed<A: Allocator = Global> {
 impl<A: Allocator> Model for Typed<A> {
     ghost use Rattle.std.specs.Prelude.{◌-◌};
     ghost use Rattle.std.specs.Vec.{vec_capacity, vec_len};
-    ghost use Rattle.p11_unibus.specs.Prepared.{TypedView};
+    ghost use Rattle.p11_unibus.specs.Kept.Prepared.{TypedView};
 
     ghost Value = { TypedView };
 

@@ -2,7 +2,7 @@ use Rattle.std.proofs.Common.{◌∙◌, ◌<◌, ap, w64, rules, FitsSigned, ar
 use Rattle.std.proofs.lemmas.Int.{to_z-of_z}
 use Rattle.p11_alu.specs.Numbers.{wrapped}
 use Rattle.p11_alu.specs.Pairs.{number_of, pair_of}
-use Rattle.p11_alu.specs.ShiftsAtOnce.{fits_pair}
+use Rattle.p11_alu.specs.Calls.ShiftsAtOnce.{fits_pair}
 use Rattle.p11_alu.proofs.Shifting.{ashc_computed}
 use Rattle.p11_alu.proofs.counted.ashc.Goals as goal
 

@@ -1,7 +1,7 @@
 use Rattle.std.proofs.Common.{◌∙◌, ◌*ℤ◌, ◌^◌, ap, sym, pos, w64, rules, FitsSigned}
 use Rattle.std.specs.Int.{int_shr}
 use Rattle.std.proofs.lemmas.Int.{to_z-of_z}
-use Rattle.p11_alu.specs.ShiftsAtOnce.{is_odd}
+use Rattle.p11_alu.specs.Calls.ShiftsAtOnce.{is_odd}
 use Rattle.p11_alu.proofs.Shifting.{out_to_left}
 use Rattle.p11_alu.proofs.counted.shifted.Goals as goal
 

@@ -1,6 +1,6 @@
 use Rattle.std.proofs.Common.{◌++◌, drop}
 use Rattle.std.specs.List.{flat_map}
-use Rattle.p11_lines.specs.Written.{Wrote}
+use Rattle.p11_lines.specs.Calls.Writing.{Wrote}
 use Rattle.p11_lines.proofs.output.put_all.Given as goal
 
 abbrev pub invariant-loop-piece : goal.invariant-loop-piece

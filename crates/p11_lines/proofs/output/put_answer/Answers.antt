@@ -1,6 +1,6 @@
 use Rattle.std.proofs.Common.{◌++◌, List, ℕ, subst}
 use Rattle.p11_lines.specs.AnswerText.{text_of}
-use Rattle.p11_lines.specs.Written.{Wrote}
+use Rattle.p11_lines.specs.Calls.Writing.{Wrote}
 use Rattle.p11_lines.proofs.Pieces.{Appends-kept-all, AppendsFront-trans, OnErr-map, OnOk-map}
 use Rattle.p11_lines.proofs.output.put_answer.Goals as goal
 

@@ -1,7 +1,8 @@
 use Rattle.std.proofs.Common.{◌≡◌, ℕ, ◌++◌, List, [], ◌∷◌, drop, get_or, subst, ap, ◌∙◌}
 use Rattle.std.proofs.lemmas.List.{append-nil}
 use Rattle.p11_lines.specs.AnswerText.{six_octals, spaced_text}
-use Rattle.p11_lines.specs.Written.{Wrote, AppendsFront}
+use Rattle.p11_lines.specs.Calls.Writing.{Wrote}
+use Rattle.p11_lines.specs.Written.{AppendsFront}
 use Rattle.p11_lines.proofs.Pieces.{Wrote-none, Wrote-piece, Wrote-end, AppendsFront-piece, puts_broken, puts_done, flat_map_drop, flat_map_past}
 use Rattle.p11_lines.proofs.output.put_spaced.Goals as goal
 

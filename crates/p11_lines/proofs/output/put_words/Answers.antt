@@ -1,6 +1,7 @@
 use Rattle.std.proofs.Common.{◌+◌, ◌*◌, ◌++◌, ℕ, List, drop, get_or, subst, arith}
 use Rattle.p11_lines.specs.AnswerText.{exam_texts}
-use Rattle.p11_lines.specs.Written.{Wrote, AppendsFront}
+use Rattle.p11_lines.specs.Calls.Writing.{Wrote}
+use Rattle.p11_lines.specs.Written.{AppendsFront}
 use Rattle.p11_lines.proofs.Pieces.{Wrote-piece, Wrote-end, AppendsFront-piece, puts_broken, puts_done, exam_texts_drop, exam_text_low, exam_texts_past}
 use Rattle.p11_lines.proofs.output.put_words.Goals as goal
 

@@ -1,6 +1,6 @@
 use Rattle.std.proofs.Common.{◌≡◌, ◌+◌, ◌*◌, ◌%◌, ◌++◌, drop}
 use Rattle.p11_lines.specs.AnswerText.{exam_texts}
-use Rattle.p11_lines.specs.Written.{Wrote}
+use Rattle.p11_lines.specs.Calls.Writing.{Wrote}
 use Rattle.p11_lines.proofs.output.put_words.Given as goal
 
 abbrev pub invariant-loop-word : goal.invariant-loop-word

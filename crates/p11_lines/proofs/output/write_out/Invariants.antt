@@ -1,5 +1,5 @@
 use Rattle.std.proofs.Common.{length}
-use Rattle.p11_lines.specs.Written.{Wrote}
+use Rattle.p11_lines.specs.Calls.Writing.{Wrote}
 use Rattle.p11_lines.proofs.output.write_out.Given as goal
 
 abbrev pub invariant-loop-rest : goal.invariant-loop-rest

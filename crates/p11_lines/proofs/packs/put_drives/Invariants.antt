@@ -1,6 +1,6 @@
 use Rattle.std.proofs.Common.{◌++◌, drop}
 use Rattle.p11_lines.specs.AnswerText.{drives_text}
-use Rattle.p11_lines.specs.Written.{Wrote}
+use Rattle.p11_lines.specs.Calls.Writing.{Wrote}
 use Rattle.p11_lines.proofs.packs.put_drives.Given as goal
 
 abbrev pub invariant-loop-number : goal.invariant-loop-number

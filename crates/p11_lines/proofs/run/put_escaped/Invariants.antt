@@ -1,6 +1,6 @@
 use Rattle.std.proofs.Common.{◌++◌, drop}
 use Rattle.p11_lines.specs.Escapes.{escaped}
-use Rattle.p11_lines.specs.Written.{Wrote}
+use Rattle.p11_lines.specs.Calls.Writing.{Wrote}
 use Rattle.p11_lines.proofs.run.put_escaped.Given as goal
 
 abbrev pub invariant-loop-byte : goal.invariant-loop-byte

@@ -1,7 +1,7 @@
 use Rattle.std.proofs.Common.{◌≡◌, ◌<◌, ◌++◌, ℕ, List, length, codes, subst, sym, arith}
 use Rattle.std.proofs.lemmas.Bool.Decides.{nat_tests}
 use Rattle.p11_lines.specs.Escapes.{escaped}
-use Rattle.p11_lines.specs.Written.{Puts}
+use Rattle.p11_lines.specs.Calls.Writing.{Puts}
 use Rattle.p11_lines.proofs.Pieces.{Wrote-untyped, puts_done, puts_failed, puts_front, puts_then, typed_text-some}
 use Rattle.p11_lines.proofs.run.put_typed.Goals as goal
 

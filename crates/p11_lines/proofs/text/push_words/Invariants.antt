@@ -1,6 +1,6 @@
 use Rattle.std.proofs.Common.{◌≡◌, ◌++◌, ◌∷◌, take, string_bytes}
 use Rattle.std.specs.List.{flat_map}
-use Rattle.p11_lines.specs.LineText.{octal}
+use Rattle.p11_lines.specs.Calls.LineText.{octal}
 use Rattle.p11_lines.proofs.text.push_words.Given as goal
 
 abbrev pub invariant-loop-word : goal.invariant-loop-word

@@ -1,5 +1,5 @@
 use Rattle.std.proofs.Common.{sym, ap, ◌∙◌, arith}
-use Rattle.p11_panel.specs.Files.{NamedBytes}
+use Rattle.p11_panel.specs.Calls.Files.{NamedBytes}
 use Rattle.p11_panel.proofs.FileLemmas.{found, missed, nothing_found}
 use Rattle.p11_panel.proofs.memory_store.find.Goals as goal
 

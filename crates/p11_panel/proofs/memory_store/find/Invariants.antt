@@ -1,5 +1,5 @@
 use Rattle.std.proofs.Common.{◌≡◌, ◌≤◌, None, length, take}
-use Rattle.p11_panel.specs.Files.{bytes_under}
+use Rattle.p11_panel.specs.Calls.Files.{bytes_under}
 use Rattle.p11_panel.proofs.memory_store.find.Given as goal
 
 abbrev pub invariant-loop-left : goal.invariant-loop-left

@@ -1,7 +1,7 @@
 use Rattle.std.proofs.Common.{◌≤◌, ◌+◌, ℕ, List, ◌++◌, take}
 use Rattle.p11_lines.specs.Writers.{WriterState}
 use Rattle.p11_panel.specs.Session.{SessionState, with_store, LineDoes}
-use Rattle.p11_panel.specs.Standing.{Stands}
+use Rattle.p11_panel.specs.Kept.Standing.{Stands}
 use Rattle.p11_panel.proofs.script.feed.Given as goal
 
 abbrev pub invariant-loop-byte : goal.invariant-loop-byte

@@ -1,6 +1,6 @@
 use Rattle.std.proofs.Common.{◌≡◌, ◌∙◌, sym, ap, subst, List, ℕ, None, Some}
 use Rattle.std.specs.Option.{option_copied}
-use Rattle.p11_panel.specs.Buffer.{kept}
+use Rattle.p11_panel.specs.Kept.Buffer.{kept}
 use Rattle.p11_panel.proofs.BufferLemmas.{kept_is, none_too_long}
 use Rattle.p11_panel.proofs.SessionLemmas.{long_line}
 use Rattle.p11_panel.specs.Session.{with_store, LineDoes}

@@ -1,6 +1,6 @@
 -- What is left of the tape lies behind blocks, whose data have been counted, and begins with no zero.
 use Rattle.std.proofs.Common.{◌≡◌, ◌≤◌, ◌+◌, length, List, ℕ}
-use Rattle.p11_tape.specs.Begins.{NoZeroFirst}
+use Rattle.p11_tape.specs.Calls.Begins.{NoZeroFirst}
 use Rattle.p11_tape.proofs.ReadLemmas.{HasRead}
 use Rattle.p11_tape.proofs.tape.check.Given as goal
 

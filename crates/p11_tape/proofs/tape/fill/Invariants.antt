@@ -1,6 +1,6 @@
 -- What has been placed is the data of the blocks that have been read; what is left begins with no zero.
 use Rattle.std.proofs.Common.{length}
-use Rattle.p11_tape.specs.Begins.{NoZeroFirst}
+use Rattle.p11_tape.specs.Calls.Begins.{NoZeroFirst}
 use Rattle.p11_tape.proofs.ReadLemmas.{HasRead}
 use Rattle.p11_tape.proofs.tape.fill.Given as goal
 

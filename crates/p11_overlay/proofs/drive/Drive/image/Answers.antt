@@ -1,7 +1,8 @@
 use Rattle.std.proofs.Common.{arith, length, ap, ◌≡◌, ◌<◌, ◌*◌, ◌∙◌, refl}
 use Rattle.std.specs.List.{concat}
 use Rattle.std.proofs.lemmas.List.{take_all}
-use Rattle.p11_overlay.specs.Drive.{IsWhole, image_of}
+use Rattle.p11_overlay.specs.Kept.Prepared.{IsWhole}
+use Rattle.p11_overlay.specs.Drive.{image_of}
 use Rattle.p11_overlay.proofs.Keeping.{whole_kept}
 use Rattle.p11_overlay.proofs.Sectors.{concat-take_more, length-concat, sectors_of-concat}
 use Rattle.p11_overlay.proofs.drive.Drive.image.Goals as goal

@@ -1,7 +1,7 @@
 use Rattle.std.proofs.Common.{◌∙◌, ap, nat_eq}
 use Rattle.std.specs.List.{concat}
 use Rattle.std.specs.Map.{lookup}
-use Rattle.p11_overlay.specs.Kept.{base_of}
+use Rattle.p11_overlay.specs.Kept.Sectors.{base_of}
 use Rattle.p11_overlay.proofs.Keeping.{All-base_of, contents_mounted, kept_mounted}
 use Rattle.p11_overlay.proofs.Over.{nothing_over}
 use Rattle.p11_overlay.proofs.Sectors.{concat-sectors_of}

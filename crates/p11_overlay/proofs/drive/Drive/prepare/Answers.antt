@@ -2,8 +2,8 @@ use Rattle.std.proofs.Common.{arith, ◌≡◌, ◌∙◌, ap, sym, nat_eq, is_s
 use Rattle.std.specs.List.{list_any}
 use Rattle.std.proofs.lemmas.Map.Made.{is_some-lookup}
 use Rattle.indexmap.specs.IndexMap.{get, index_map_len, keys}
-use Rattle.p11_overlay.specs.Drive.{DriveState}
-use Rattle.p11_overlay.specs.Kept.{base_sector}
+use Rattle.p11_overlay.specs.Kept.Prepared.{DriveState}
+use Rattle.p11_overlay.specs.Kept.Sectors.{base_sector}
 use Rattle.p11_overlay.proofs.Keeping.{contents_same, kept_prepared, not_kept, put_here, put_there}
 use Rattle.p11_overlay.proofs.Over.{prepared_sector}
 use Rattle.p11_overlay.proofs.drive.Drive.prepare.Goals as goal

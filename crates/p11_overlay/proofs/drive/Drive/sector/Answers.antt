@@ -1,7 +1,7 @@
 use Rattle.std.proofs.Common.{◌∙◌, ap, sym, nat_eq, get_or, []}
 use Rattle.indexmap.specs.IndexMap.{get}
-use Rattle.p11_overlay.specs.Drive.{DriveState}
-use Rattle.p11_overlay.specs.Kept.{base_sector, over_base}
+use Rattle.p11_overlay.specs.Kept.Prepared.{DriveState}
+use Rattle.p11_overlay.specs.Kept.Sectors.{base_sector, over_base}
 use Rattle.p11_overlay.proofs.Keeping.{length-base_sector, whole_kept}
 use Rattle.p11_overlay.proofs.Over.{sector_over}
 use Rattle.p11_overlay.proofs.drive.Drive.sector.Goals as goal

@@ -1,7 +1,8 @@
 use Rattle.std.proofs.Common.{arith, ◌∙◌, ap, nat_eq, vec_capacity}
 use Rattle.std.specs.List.{list_any}
 use Rattle.indexmap.specs.IndexMap.{get, index_map_len}
-use Rattle.p11_overlay.specs.Drive.{DriveState, written}
+use Rattle.p11_overlay.specs.Kept.Prepared.{DriveState}
+use Rattle.p11_overlay.specs.Drive.{written}
 use Rattle.p11_overlay.proofs.Keeping.{contents_written, kept_written, room_for_one}
 use Rattle.p11_overlay.proofs.Over.{written_sector}
 use Rattle.p11_overlay.proofs.drive.Drive.write.Goals as goal

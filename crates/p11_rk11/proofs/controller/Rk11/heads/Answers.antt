@@ -1,6 +1,7 @@
 use Rattle.std.proofs.Common.{sym, ap, ◌∙◌, subst, ◌≡◌, is_some, true}
-use Rattle.p11_rk11.specs.State.{heads_at, drive_of}
-use Rattle.p11_rk11.specs.View.{Rk11View}
+use Rattle.p11_rk11.specs.Calls.Heads.{heads_at}
+use Rattle.p11_rk11.specs.State.{drive_of}
+use Rattle.p11_rk11.specs.Kept.View.{Rk11View}
 use Rattle.p11_rk11.proofs.Parts.{drive_seen, no_heads}
 use Rattle.p11_rk11.proofs.controller.Rk11.heads.Goals as goal
 

@@ -4,7 +4,7 @@ use Rattle.p11_rk11.proofs.Init.{initialized, one_more, all_drives}
 use Rattle.std.proofs.Math.ListN.{length-map}
 use Rattle.p11_rk11.specs.declared.registers.Registers.{Registers}
 use Rattle.p11_rk11.specs.Drives.{MountedDrive}
-use Rattle.p11_rk11.specs.View.{Rk11View, visible_drive}
+use Rattle.p11_rk11.specs.Kept.View.{Rk11View, visible_drive}
 use Rattle.p11_rk11.specs.Registers.{cleared_registers}
 use Rattle.p11_rk11.proofs.Closing.{kept_idle}
 use Rattle.p11_rk11.proofs.controller.Rk11.init.Goals as goal

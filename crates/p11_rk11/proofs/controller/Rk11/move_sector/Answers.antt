@@ -1,7 +1,7 @@
 use Rattle.std.proofs.Common.{◌≡◌, true, subst}
 use Rattle.p11_rk11.specs.Acts.{after_sector_on}
 use Rattle.p11_rk11.specs.Functions.{is_write}
-use Rattle.p11_rk11.specs.View.{Rk11View}
+use Rattle.p11_rk11.specs.Kept.View.{Rk11View}
 use Rattle.p11_rk11.proofs.Closing.{due_place, kept_moved}
 use Rattle.p11_rk11.proofs.Parts.{selected_moved, selected_prepared, prepared_to_move, put_back}
 use Rattle.p11_rk11.proofs.controller.Rk11.move_sector.Goals as goal

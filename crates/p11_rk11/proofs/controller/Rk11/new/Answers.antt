@@ -1,5 +1,5 @@
 use Rattle.std.proofs.Common.{List, Option, length, ap}
-use Rattle.p11_rk11.specs.Drives.{MountedState}
+use Rattle.p11_rk11.specs.Kept.View.{MountedState}
 use Rattle.p11_rk11.specs.declared.registers.Registers.{Registers}
 use Rattle.p11_rk11.specs.Registers.{cleared_registers}
 use Rattle.p11_rk11.proofs.Closing.{kept_idle}

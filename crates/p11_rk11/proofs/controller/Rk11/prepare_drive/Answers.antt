@@ -1,7 +1,8 @@
 use Rattle.std.proofs.Common.{sym, ap, ◌∙◌, subst, ◌≡◌, true}
 use Rattle.p11_rk11.specs.Place.{sector_number}
 use Rattle.p11_rk11.specs.State.{selected}
-use Rattle.p11_rk11.specs.View.{Rk11View, is_listed}
+use Rattle.p11_rk11.specs.Kept.View.{Rk11View}
+use Rattle.p11_rk11.specs.View.{is_listed}
 use Rattle.p11_rk11.proofs.Parts.{visible_same, others_prepared, prepared_after, selected_seen, selected_prepared, view_same, on_ok, on_err, put_back}
 use Rattle.p11_rk11.proofs.Closing.{kept_same}
 use Rattle.p11_rk11.proofs.controller.Rk11.prepare_drive.Goals as goal

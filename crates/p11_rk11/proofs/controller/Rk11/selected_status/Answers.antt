@@ -1,6 +1,6 @@
 use Rattle.std.proofs.Common.{sym, ap, ◌∙◌}
 use Rattle.p11_rk11.specs.State.{status_of}
-use Rattle.p11_rk11.specs.View.{visible_drive}
+use Rattle.p11_rk11.specs.Kept.View.{visible_drive}
 use Rattle.p11_rk11.proofs.Parts.{selected_seen}
 use Rattle.p11_rk11.proofs.controller.Rk11.selected_status.Goals as goal
 

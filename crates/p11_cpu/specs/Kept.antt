@@ -1,0 +1,6 @@
+-- What is kept beside the state, and seen by contracts alone.
+pub mod Agreement
+pub mod Decoded
+pub mod Prepared
+pub mod Quiet
+pub mod View

@@ -1,0 +1,3 @@
+-- What is kept beside the state, and seen by contracts alone.
+pub mod Buffer
+pub mod Standing

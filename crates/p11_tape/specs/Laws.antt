@@ -1,0 +1,4 @@
+-- What follows from the definitions: nothing that is proved of a list of commands rests on it.
+pub mod Block
+pub mod Tape
+pub mod Writer

@@ -1,0 +1,7 @@
+-- What is kept beside the state, and seen by contracts alone.
+pub mod Devices
+pub mod Due
+pub mod Prepared
+pub mod Quiet
+pub mod View
+pub mod Written
