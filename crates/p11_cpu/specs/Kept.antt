@@ -1,5 +1,6 @@
 -- What is kept beside the state, and seen by contracts alone.
 pub mod Agreement
+pub mod Bank
 pub mod Decoded
 pub mod Prepared
 pub mod Quiet

@@ -22,6 +22,7 @@ mod program_control;
 mod quiet;
 mod ready;
 mod references;
+mod bank;
 mod registers;
 mod service;
 mod single_operand;
