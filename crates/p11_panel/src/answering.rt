@@ -100,9 +100,10 @@ fn save_file<A: Allocator + Copy, S: Store>(
     }
 }
 
-/// Does a line that the grammar has.
+/// Does a line of the console's language on a machine and a store of files. A line that names a file calls the store
+/// once, by that name; all others leave it. What is refused comes as the answer.
 #[tactic(auto, unfolding(crate::specs::Session::Obeys))]
-fn obey<A: Allocator + Copy, S: Store>(
+pub fn obey<A: Allocator + Copy, S: Store>(
     alloc: A,
     panel: &mut Panel<A>,
     store: &mut S,

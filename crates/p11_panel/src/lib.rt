@@ -21,6 +21,7 @@ mod shown;
 mod source;
 mod store;
 
+pub use answering::obey;
 pub use command::Command;
 pub use config::Config;
 pub use confined::a_user_run_is_confined;
