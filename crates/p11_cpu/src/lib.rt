@@ -4,6 +4,7 @@
 //! `Instructions.antt` the steps of each instruction.
 #![tactic(auto)]
 
+mod bank;
 mod bus;
 mod decoded_bus;
 mod double_operand;
@@ -22,7 +23,6 @@ mod program_control;
 mod quiet;
 mod ready;
 mod references;
-mod bank;
 mod registers;
 mod service;
 mod single_operand;
