@@ -5,7 +5,7 @@ use Rattle.std.specs.List.{flat_map}
 use Rattle.std.specs.Prelude.{Result, Ok, Err, OnOk, OnErr, false}
 use Rattle.std.specs.Result.{is_ok, IsErr}
 use Rattle.p11_lines.specs.AnswerText.{six_octals, exam_text, exam_texts, typed_text, drive_text, drives_text}
-use Rattle.p11_lines.specs.declared.answer.DriveShown.{DriveShown}
+use Rattle.p11_unibus.specs.declared.devices.DriveShown.{DriveShown}
 use Rattle.p11_lines.specs.Escapes.{escaped}
 use Rattle.p11_lines.specs.Writers.{WriterState, Writes}
 use Rattle.p11_lines.specs.Calls.Writing.{Wrote, Puts}
