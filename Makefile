@@ -25,8 +25,8 @@ programs := $(notdir $(patsubst %/src/main.rt,%,$(wildcard crates/*/src/main.rt)
 kit := $(filter-out $(crates) %:,$(shell sed '/^\#/d' crates.txt))
 # What stands beside the processor is proved with what its crates leave of the cores. The large crates, of which one at a
 # time is proved, get as many jobs as rt finds room for, and each other crate one.
-aside := p11_tape p11_lines p11_arguments
-large := p11_rk11 p11_unibus p11_cpu p11_panel
+aside := p11_tape p11_arguments
+large := p11_rk11 p11_unibus p11_lines p11_cpu p11_panel
 verb = $(if $(filter $@,$(programs)),run -- --help,lib $(if $(filter $@,$(large)),,--jobs 1))
 behind = $(if $(filter $@,$(aside)),nice -n 10)
 

@@ -129,7 +129,7 @@ fn press<A: Allocator + Copy, S: Store, T: Write, L: Write, O: Opening>(
     let Some(devices) = desk.devices(alloc) else {
         return;
     };
-    let room = 64u32.saturating_sub(devices.line.keys) as usize;
+    let room = 64u32.saturating_sub(devices.bus.keys) as usize;
     let keys = waiting.front(room);
     if keys.is_empty() {
         return;

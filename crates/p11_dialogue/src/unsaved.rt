@@ -87,7 +87,7 @@ impl<A: Allocator + Copy> SavedPacks<A> {
         devices: &Devices,
         drive: u32,
     ) -> bool {
-        match devices.drives.get(drive as usize) {
+        match devices.bus.drives.get(drive as usize) {
             Some(Some(shown)) => shown.changed > 0 && !self.has_saved(alloc, desk, drive),
             _ => false,
         }

@@ -1,8 +1,8 @@
 -- Writes, one after the other.
-use Rattle.std.proofs.Common.{◌≡◌, ◌+◌, ℕ, Bool, true, false, List, [], ◌∷◌, ◌++◌, Option, None, Some, refl, sym, ap, subst, ◌∙◌, append_assoc, append-nil, add-zero}
-use Rattle.std.specs.Prelude.{replicate, nat_lt}
+use Rattle.std.proofs.Common.{◌≡◌, ◌+◌, ℕ, Bool, true, List, [], ◌∷◌, ◌++◌, Option, None, Some, refl, sym, ap, ◌∙◌, append_assoc, append-nil, add-zero}
+use Rattle.std.specs.Prelude.{replicate}
 use Rattle.std.proofs.lemmas.List.{replicate-append-replicate}
-use Rattle.std.specs.Io.KnownBytes.{Appends, Keeps}
+use Rattle.std.specs.Io.KnownBytes.{Appends}
 use Rattle.std.proofs.KnownBytes.{Appends-nil, Appends-trans}
 use Rattle.p11_lines.specs.Writers.{WriterState, Writes, with_calls}
 
@@ -48,20 +48,3 @@ Writes-trans a b c x y last first second = record {
 pub Writes-one : (a b : WriterState) (text : List ℕ) (took : Bool) → took ≡ true → Appends a.bytes b.bytes text → b.writes ≡ with_calls a.writes (took ∷ []) → Writes a b text []
 Writes-one a b text took some bytes calls =
     record { bytes = bytes; count = 1; writes = calls ∙ ap (λ (t : Bool). with_calls a.writes (t ∷ [])) some }
-
-kept_none : (a b : Option (List ℕ)) → Keeps a b → Appends a b []
-kept_none None b kept = tt
-kept_none (Some x) None kept = absurd kept
-kept_none (Some x) (Some y) kept = kept ∙ sym (append-nil x)
-
--- one that fails
-pub Writes-failed : (a b : WriterState) → Keeps a.bytes b.bytes → b.writes ≡ with_calls a.writes (false ∷ []) → Writes a b [] (false ∷ [])
-Writes-failed a b kept calls = record { bytes = kept_none a.bytes b.bytes kept; count = 0; writes = calls }
-
--- one that takes nothing
-pub Writes-nothing : (a b : WriterState) (text : List ℕ) (n : ℕ) → n ≡ 0 → Appends a.bytes b.bytes text → text ≡ [] → b.writes ≡ with_calls a.writes (nat_lt 0 n ∷ []) → Writes a b [] (false ∷ [])
-Writes-nothing a b text n zero_is bytes none calls = record {
-  bytes = subst (λ (t : List ℕ). Appends a.bytes b.bytes t) none bytes;
-  count = 0;
-  writes = calls ∙ ap (λ (k : ℕ). with_calls a.writes (nat_lt 0 k ∷ [])) zero_is;
-}

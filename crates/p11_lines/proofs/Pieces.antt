@@ -1,11 +1,11 @@
 -- What has been written so far, and what is left.
 use Rattle.std.proofs.Common.{rules, ◌≡◌, ◌≤◌, ◌-◌, ◌+◌, ◌*◌, ◌%◌, ◌<◌, get_or, add-one, drop-cons, arith, ℕ, List, [], ◌++◌, length, take, drop, Option, refl, sym, ap, subst, ◌∙◌, append_assoc, append-nil, take-append-drop, codes, ◌∷◌}
-use Rattle.std.proofs.lemmas.List.{nil_from_length, take_all, drop_all, length-drop, length-append}
+use Rattle.std.proofs.lemmas.List.{take_all, drop_all, length-drop, length-append}
 use Rattle.std.specs.List.{flat_map}
 use Rattle.std.specs.Prelude.{Result, Ok, Err, OnOk, OnErr, false}
 use Rattle.std.specs.Result.{is_ok, IsErr}
 use Rattle.p11_lines.specs.AnswerText.{six_octals, exam_text, exam_texts, typed_text, drive_text, drives_text}
-use Rattle.p11_lines.specs.declared.answer.DriveShown.{DriveShown}
+use Rattle.p11_unibus.specs.declared.devices.DriveShown.{DriveShown}
 use Rattle.p11_lines.specs.Escapes.{escaped}
 use Rattle.p11_lines.specs.Writers.{WriterState, Writes}
 use Rattle.p11_lines.specs.Calls.Writing.{Wrote, Puts}
@@ -24,40 +24,11 @@ Wrote-more a b c text rest n so_far more = record {
   split = so_far.split ∙ ap (λ (t : List ℕ). so_far.front ++ t) (sym (take-append-drop n rest)) ∙ sym (append_assoc so_far.front (take n rest) (drop n rest));
 }
 
--- nothing more, and something is left
-pub AppendsFront-wrote : (a b c : WriterState) (text rest : List ℕ) → Wrote a b text rest → Writes b c [] (false ∷ []) → 0 < length rest → AppendsFront a c text
-AppendsFront-wrote a b c text rest so_far failed more = record {
-  front = so_far.front;
-  back = rest;
-  written = subst (λ (t : List ℕ). Writes a c t (false ∷ [])) (append-nil so_far.front) (Writes-trans a b c so_far.front [] _ so_far.written failed);
-  split = so_far.split;
-  unwritten = more;
-}
-
--- no rest is left
-pub Appends-wrote : (a b : WriterState) (text rest : List ℕ) → Wrote a b text rest → length rest ≡ 0 → Writes a b text []
-Appends-wrote a b text rest so_far none =
-    let nil : rest ≡ [] = nil_from_length rest none in
-    let whole : so_far.front ≡ text = sym (so_far.split ∙ ap (λ (t : List ℕ). so_far.front ++ t) nil ∙ append-nil so_far.front) in
-    subst (λ (t : List ℕ). Writes a b t []) whole so_far.written
-
 -- what `&rest[n..]` is
 pub Wrote-slice : (a b c : WriterState) (text rest : List ℕ) (n len : ℕ) → Wrote a b text rest → Writes b c (take n rest) [] → len ≡ length rest - n → Wrote a c text (take len (drop n rest))
 Wrote-slice a b c text rest n len so_far more e =
     let whole : take len (drop n rest) ≡ drop n rest = take_all len (drop n rest) (omega (arith, length-drop n rest)) in
     subst (λ (t : List ℕ). Wrote a c text t) (sym whole) (Wrote-more a b c text rest n so_far more)
-
--- a piece is kept too
-pub Wrote-kept : (a : WriterState) (kept piece all : List ℕ) → all ≡ kept ++ piece → Wrote a a (kept ++ piece) all
-Wrote-kept a kept piece all all_is = record { front = []; written = Writes-none a; split = sym all_is }
-
--- what was kept is written, and a piece is kept
-pub Wrote-emptied : (a b : WriterState) (kept piece none all : List ℕ) → Writes a b kept [] → none ≡ [] → all ≡ none ++ piece → Wrote a b (kept ++ piece) all
-Wrote-emptied a b kept piece none all done none_is all_is = record {
-  front = kept;
-  written = done;
-  split = ap (λ (t : List ℕ). kept ++ t) (sym (all_is ∙ ap (λ (t : List ℕ). t ++ piece) none_is));
-}
 
 -- what was kept is written, and then a piece
 pub Wrote-through : (a b c : WriterState) (kept piece none : List ℕ) → Writes a b kept [] → none ≡ [] → Writes b c piece [] → Wrote a c (kept ++ piece) none
@@ -66,10 +37,6 @@ Wrote-through a b c kept piece none done none_is more = record {
   written = Writes-trans a b c kept piece _ done more;
   split = sym (ap (λ (t : List ℕ). (kept ++ piece) ++ t) none_is ∙ append-nil (kept ++ piece));
 }
-
--- nothing is left
-pub Wrote-whole : (a b : WriterState) (text rest none : List ℕ) → Wrote a b text rest → rest ≡ none → Wrote a b text none
-Wrote-whole a b text rest none so_far e = subst (λ (t : List ℕ). Wrote a b text t) e so_far
 
 -- of the text that was left
 pub Wrote-trans : (a b c : WriterState) (text rest kept : List ℕ) → Wrote a b text rest → Wrote b c rest kept → Wrote a c text kept

@@ -6,17 +6,16 @@ use Rattle.std.specs.Fmt.{decimal}
 use Rattle.p11_lines.specs.declared.answer.Answer.{Answer}
 use Rattle.p11_lines.specs.declared.answer.Answer.TheVariants as answer
 use Rattle.p11_lines.specs.declared.answer.Devices.{Devices}
-use Rattle.p11_lines.specs.declared.answer.DiskRegisters.{DiskRegisters}
-use Rattle.p11_lines.specs.declared.answer.DriveShown.{DriveShown}
-use Rattle.p11_lines.specs.declared.answer.LineRegisters.{LineRegisters}
 use Rattle.p11_lines.specs.declared.answer.ManagementRegisters.{ManagementRegisters}
 use Rattle.p11_lines.specs.declared.answer.Mark.{Mark}
 use Rattle.p11_lines.specs.declared.answer.Mark.TheVariants.{Ready, Waiting, Halted}
 use Rattle.p11_lines.specs.declared.answer.Registers.{Registers}
-use Rattle.p11_lines.specs.declared.answer.Requests.{Requests}
 use Rattle.p11_lines.specs.declared.answer.StopReason.{StopReason}
 use Rattle.p11_lines.specs.declared.answer.StopReason.TheVariants.{Halt, Turns, Idle, Memory}
 use Rattle.p11_lines.specs.declared.fault.Fault.{Fault}
+use Rattle.p11_unibus.specs.declared.devices.BusDevices.{BusDevices}
+use Rattle.p11_unibus.specs.declared.devices.DiskRegisters.{DiskRegisters}
+use Rattle.p11_unibus.specs.declared.devices.DriveShown.{DriveShown}
 use Rattle.p11_lines.specs.Escapes.{escaped}
 use Rattle.p11_lines.specs.Grammar.{access_text}
 use Rattle.p11_lines.specs.FaultTable.{number_of_fault, name_of_fault}
@@ -84,22 +83,22 @@ due_text None = codes "-"
 due_text (Some turn) = decimal turn
 
 -- `KW11 o every d due d`: the line clock's status register, its period and its due turn
-unfoldable pub clock_text : ℕ → ℕ → Option ℕ → List ℕ
-clock_text status period due =
-    codes "KW11 " ++ six_octals status ++ codes " every " ++ decimal period ++ codes " due " ++ due_text due
-    ++ codes "\n"
+unfoldable pub clock_text : BusDevices → List ℕ
+clock_text d =
+    codes "KW11 " ++ six_octals d.clock ++ codes " every " ++ decimal d.clock_period
+    ++ codes " due " ++ due_text d.clock_due ++ codes "\n"
 
 -- `DL11 o o o`: RCSR, RBUF and XCSR
-unfoldable pub line_words_text : LineRegisters → List ℕ
-line_words_text l =
-    codes "DL11 " ++ six_octals l.receiver_status ++ codes " " ++ six_octals l.receiver_buffer
-    ++ codes " " ++ six_octals l.transmitter_status
+unfoldable pub line_words_text : BusDevices → List ℕ
+line_words_text d =
+    codes "DL11 " ++ six_octals d.receiver_status ++ codes " " ++ six_octals d.receiver_buffer
+    ++ codes " " ++ six_octals d.transmitter_status
 
 -- ` keys d rx d tx d` behind it: the keys that wait, and both due turns
-unfoldable pub line_waits_text : LineRegisters → List ℕ
-line_waits_text l =
-    codes " keys " ++ decimal l.keys ++ codes " rx " ++ due_text l.receiver_due
-    ++ codes " tx " ++ due_text l.transmitter_due ++ codes "\n"
+unfoldable pub line_waits_text : BusDevices → List ℕ
+line_waits_text d =
+    codes " keys " ++ decimal d.keys ++ codes " rx " ++ due_text d.receiver_due
+    ++ codes " tx " ++ due_text d.transmitter_due ++ codes "\n"
 
 -- ` due d`: the due turn of the transfer
 unfoldable pub disk_due_text : Option ℕ → List ℕ
@@ -108,8 +107,9 @@ disk_due_text due = codes " due " ++ due_text due ++ codes "\n"
 -- `RK11 o o o o o o due d`: RKDS, RKER, RKCS, RKWC, RKBA and RKDA, and the due turn
 abbrev pub disk_text : DiskRegisters → List ℕ
 disk_text d =
-    codes "RK11" ++ spaced_text (d.status ∷ d.errors ∷ d.control ∷ d.word_count ∷ d.bus_address ∷ d.disk_address ∷ [])
-    ++ disk_due_text d.due
+    codes "RK11"
+    ++ spaced_text (d.drive_status ∷ d.error ∷ d.control_status ∷ d.word_count ∷ d.bus_address ∷ d.disk_address ∷ [])
+    ++ disk_due_text d.transfer_due
 
 -- ` rw cylinder d changed d due d`, or with `ro`: a pack's access, where the heads are, how many of its sectors were
 -- written, and the due turn of its seek
@@ -137,15 +137,15 @@ request_text false = codes "0"
 request_text true = codes "1"
 
 -- `REQ d d d d`: who requests an interrupt, the clock, the disk, the receiver and the transmitter
-unfoldable pub requests_text : Requests → List ℕ
-requests_text r =
-    codes "REQ " ++ request_text r.clock ++ codes " " ++ request_text r.disk
-    ++ codes " " ++ request_text r.receiver ++ codes " " ++ request_text r.transmitter ++ codes "\n"
+unfoldable pub requests_text : BusDevices → List ℕ
+requests_text d =
+    codes "REQ " ++ request_text d.clock_request ++ codes " " ++ request_text d.disk_request
+    ++ codes " " ++ request_text d.receiver_request ++ codes " " ++ request_text d.transmitter_request ++ codes "\n"
 
 abbrev pub devices_text : Devices → List ℕ
 devices_text d =
-    clock_text d.clock.status d.clock.period d.clock.due ++ (line_words_text d.line ++ line_waits_text d.line)
-    ++ disk_text d.disk ++ drives_text 0 d.drives ++ management_text d.management ++ requests_text d.requests
+    clock_text d.bus ++ (line_words_text d.bus ++ line_waits_text d.bus) ++ disk_text d.bus.disk
+    ++ drives_text 0 d.bus.drives ++ management_text d.management ++ requests_text d.bus
 
 -- ` d` for each number
 abbrev pub numbers_text : List ℕ → List ℕ

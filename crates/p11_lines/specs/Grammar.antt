@@ -115,146 +115,73 @@ access_from word =
 
 -- ---- lines
 
--- `mount D NAME rw`, `mount D NAME ro`
-unfoldable pub mount_from : {A : Type 0} → List (List ℕ) → Option (Line A)
-mount_from [] = None
-mount_from (d ∷ []) = None
-mount_from (d ∷ n ∷ []) = None
-mount_from (d ∷ n ∷ a ∷ []) = do
-  drive ← word_from d
-  name ← name_from n
-  protect ← access_from a
-  Some (Mount drive name protect)
-mount_from (d ∷ n ∷ a ∷ more ∷ rest) = None
+-- how the words behind a command's name are read: as a line, if they are one
+abbrev pub Reading : Type 0 → Type 0
+Reading A = List (List ℕ) → Option (Line A)
 
--- `save D NAME`
-unfoldable pub save_from : {A : Type 0} → List (List ℕ) → Option (Line A)
-save_from [] = None
-save_from (d ∷ []) = None
-save_from (d ∷ n ∷ []) = do
-  drive ← word_from d
-  name ← name_from n
-  Some (Save drive name)
-save_from (d ∷ n ∷ more ∷ rest) = None
+-- no word more
+unfoldable pub no_word : {A : Type 0} → Line A → Reading A
+no_word line [] = Some line
+no_word line (more ∷ rest) = None
 
--- `load NAME`
-unfoldable pub load_from : {A : Type 0} → List (List ℕ) → Option (Line A)
-load_from [] = None
-load_from (n ∷ []) = do
-  name ← name_from n
-  Some (Load name)
-load_from (n ∷ more ∷ rest) = None
+-- a first word, which `read` reads, and behind it what `others` reads; the line is made of both
+unfoldable pub word_and : {A B C : Type 0} → (List ℕ → Option B) → (C → Reading A) → (B → C) → Reading A
+word_and read others line [] = None
+word_and read others line (word ∷ rest) = do
+  value ← read word
+  others (line value) rest
 
--- `unmount D`, `changed D`
-unfoldable pub drive_from : {A : Type 0} → (ℕ → Line A) → List (List ℕ) → Option (Line A)
-drive_from ask [] = None
-drive_from ask (d ∷ []) = do
-  drive ← word_from d
-  Some (ask drive)
-drive_from ask (d ∷ more ∷ rest) = None
+-- so many words and no more
+abbrev pub one_word : {A B : Type 0} → (List ℕ → Option B) → (B → Line A) → Reading A
+one_word read = word_and read no_word
 
--- `examine A`, `examine A N`
-unfoldable pub examine_from : {A : Type 0} → List (List ℕ) → Option (Line A)
-examine_from [] = None
-examine_from (a ∷ []) = do
-  address ← address_from a
-  Some (Examine address 1)
-examine_from (a ∷ n ∷ []) = do
-  address ← address_from a
-  count ← count_from n
-  Some (Examine address count)
-examine_from (a ∷ n ∷ more ∷ rest) = None
+abbrev pub two_words : {A B C : Type 0} → (List ℕ → Option B) → (List ℕ → Option C) → (B → C → Line A) → Reading A
+two_words first second = word_and first (one_word second)
 
--- `deposit A W ..`
-unfoldable pub deposit_from : {A : Type 0} → List (List ℕ) → Option (Line A)
-deposit_from [] = None
-deposit_from (a ∷ []) = None
-deposit_from (a ∷ w ∷ ws) = do
-  address ← address_from a
-  words ← all_words_from (w ∷ ws)
-  Some (Deposit address words)
+-- a count and no more; no word is a count of 1
+unfoldable pub count_or_none : {A : Type 0} → (ℕ → Line A) → Reading A
+count_or_none line [] = Some (line 1)
+count_or_none line (word ∷ rest) = one_word count_from line (word ∷ rest)
 
--- `start A`
-unfoldable pub start_from : {A : Type 0} → List (List ℕ) → Option (Line A)
-start_from [] = None
-start_from (a ∷ []) = do
-  address ← word_from a
-  Some (Start address)
-start_from (a ∷ more ∷ rest) = None
+-- words of the machine, at least one
+unfoldable pub some_words : {A : Type 0} → (List ℕ → Line A) → Reading A
+some_words line [] = None
+some_words line (word ∷ rest) = do
+  words ← all_words_from (word ∷ rest)
+  Some (line words)
 
--- `key TEXT`
-unfoldable pub key_from : {A : Type 0} → List (List ℕ) → Option (Line A)
-key_from [] = None
-key_from (t ∷ []) = do
-  text ← bytes_from t
-  Some (Key text)
-key_from (t ∷ more ∷ rest) = None
+-- each command's name, and how the words behind it are read
+abbrev pub commands : {A : Type 0} → List (List ℕ × Reading A)
+commands =
+    (codes "mount", word_and word_from (two_words name_from access_from) Mount)
+    ∷ (codes "save", two_words word_from name_from Save)
+    ∷ (codes "load", one_word name_from Load)
+    ∷ (codes "deposit", word_and address_from some_words Deposit)
+    ∷ (codes "key", one_word bytes_from Key)
+    ∷ (codes "unmount", one_word word_from Unmount)
+    ∷ (codes "changed", one_word word_from Changed)
+    ∷ (codes "examine", word_and address_from count_or_none Examine)
+    ∷ (codes "tick", no_word Tick)
+    ∷ (codes "clock", one_word period_from Clock)
+    ∷ (codes "device", no_word Device)
+    ∷ (codes "start", one_word word_from Start)
+    ∷ (codes "switches", one_word word_from Switches)
+    ∷ (codes "set", two_words word_from word_from Set)
+    ∷ (codes "step", one_word count_from Step)
+    ∷ (codes "continue", one_word count_from Continue)
+    ∷ (codes "regs", no_word Regs)
+    ∷ (codes "flush", no_word Flush)
+    ∷ []
 
--- a command that is its name alone
-unfoldable pub plain_from : {A : Type 0} → Line A → List (List ℕ) → Option (Line A)
-plain_from line [] = Some line
-plain_from line (more ∷ rest) = None
-
--- `clock P`
-unfoldable pub clock_from : {A : Type 0} → List (List ℕ) → Option (Line A)
-clock_from [] = None
-clock_from (p ∷ []) = do
-  period ← period_from p
-  Some (Clock period)
-clock_from (p ∷ more ∷ rest) = None
-
--- `switches W`
-unfoldable pub switches_from : {A : Type 0} → List (List ℕ) → Option (Line A)
-switches_from [] = None
-switches_from (w ∷ []) = do
-  word ← word_from w
-  Some (Switches word)
-switches_from (w ∷ more ∷ rest) = None
-
--- `set R W`
-unfoldable pub set_from : {A : Type 0} → List (List ℕ) → Option (Line A)
-set_from [] = None
-set_from (r ∷ []) = None
-set_from (r ∷ w ∷ []) = do
-  register ← word_from r
-  value ← word_from w
-  Some (Set register value)
-set_from (r ∷ w ∷ more ∷ rest) = None
-
--- `step N`, `continue N`
-unfoldable pub turns_from : {A : Type 0} → (ℕ → Line A) → List (List ℕ) → Option (Line A)
-turns_from run [] = None
-turns_from run (n ∷ []) = do
-  turns ← count_from n
-  Some (run turns)
-turns_from run (n ∷ more ∷ rest) = None
-
--- the line about a drive that a command of this name and these words are
-unfoldable pub disk_line_from : {A : Type 0} → List ℕ → List (List ℕ) → Option (Line A)
-disk_line_from name args =
-    if bytes_eq name (codes "mount") then mount_from args else (
-    if bytes_eq name (codes "unmount") then drive_from (λ drive. Unmount drive) args else (
-    if bytes_eq name (codes "save") then save_from args else (
-    if bytes_eq name (codes "changed") then drive_from (λ drive. Changed drive) args else None)))
+-- the line that the words behind a name are, by the row of that name
+unfoldable pub line_by : {A : Type 0} → List (List ℕ × Reading A) → List ℕ → Reading A
+line_by [] name args = None
+line_by (row ∷ rows) name args = if bytes_eq name row.0 then row.1 args else line_by rows name args
 
 -- the line that these words are, the command's name first
-unfoldable pub line_from_words : {A : Type 0} → List (List ℕ) → Option (Line A)
+unfoldable pub line_from_words : {A : Type 0} → Reading A
 line_from_words [] = None
-line_from_words (name ∷ args) =
-    if bytes_eq name (codes "examine") then examine_from args else (
-    if bytes_eq name (codes "deposit") then deposit_from args else (
-    if bytes_eq name (codes "start") then start_from args else (
-    if bytes_eq name (codes "key") then key_from args else (
-    if bytes_eq name (codes "tick") then plain_from Tick args else (
-    if bytes_eq name (codes "clock") then clock_from args else (
-    if bytes_eq name (codes "switches") then switches_from args else (
-    if bytes_eq name (codes "set") then set_from args else (
-    if bytes_eq name (codes "step") then turns_from (λ turns. Step turns) args else (
-    if bytes_eq name (codes "continue") then turns_from (λ turns. Continue turns) args else (
-    if bytes_eq name (codes "regs") then plain_from Regs args else (
-    if bytes_eq name (codes "device") then plain_from Device args else (
-    if bytes_eq name (codes "flush") then plain_from Flush args else (
-    if bytes_eq name (codes "load") then load_from args else disk_line_from name args)))))))))))))
+line_from_words (name ∷ args) = line_by commands name args
 
 -- the line that these bytes are, which have no end of line with them
 unfoldable pub line_from : {A : Type 0} → List ℕ → Option (Line A)

@@ -2,6 +2,7 @@
 use crate::bytes::Bytes;
 use crate::fault::Fault;
 use crate::words::Words;
+use p11_unibus::BusDevices;
 use std::alloc::{Allocator, Global};
 
 /// Why a run stopped.
@@ -47,61 +48,6 @@ pub struct Registers {
     pub mark: Mark,
 }
 
-/// What shows of the line clock.
-#[derive(Clone, Copy, Debug, PartialEq, Eq)]
-pub struct ClockShown {
-    /// The status register.
-    pub status: u16,
-    /// After so many turns the line ticks by itself, again and again; with 0 it doesn't.
-    pub period: u32,
-    /// The turn in which it next ticks by itself.
-    pub due: Option<u64>,
-}
-
-/// What shows of the console line. A due turn is one in which the section acts if nothing else happens.
-#[derive(Clone, Copy, Debug, PartialEq, Eq)]
-pub struct LineRegisters {
-    pub receiver_status: u16,
-    pub receiver_buffer: u16,
-    pub transmitter_status: u16,
-    /// How many keys wait.
-    pub keys: u32,
-    pub receiver_due: Option<u64>,
-    pub transmitter_due: Option<u64>,
-}
-
-/// What shows of the disk controller.
-#[derive(Clone, Copy, Debug, PartialEq, Eq)]
-pub struct DiskRegisters {
-    /// RKDS, the drive status register.
-    pub status: u16,
-    /// RKER, the error register.
-    pub errors: u16,
-    /// RKCS, the control status register.
-    pub control: u16,
-    /// RKWC, the word count register.
-    pub word_count: u16,
-    /// RKBA, the bus address register.
-    pub bus_address: u16,
-    /// RKDA, the disk address register.
-    pub disk_address: u16,
-    /// The turn in which the running transfer moves a sector.
-    pub due: Option<u64>,
-}
-
-/// What shows of a drive with a pack in it.
-#[derive(Clone, Copy, Debug, PartialEq, Eq)]
-pub struct DriveShown {
-    /// Whether the pack is protected from writes.
-    pub protected: bool,
-    /// The cylinder at which the heads are.
-    pub cylinder: u8,
-    /// How many sectors were written since the pack was mounted.
-    pub changed: u32,
-    /// The turn in which the drive's seek is done.
-    pub due: Option<u64>,
-}
-
 /// The status registers of memory management.
 #[derive(Clone, Copy, Debug, PartialEq, Eq)]
 pub struct ManagementRegisters {
@@ -111,30 +57,13 @@ pub struct ManagementRegisters {
     pub status_2: u16,
 }
 
-/// Which devices request an interrupt.
-#[derive(Clone, Copy, Debug, PartialEq, Eq)]
-pub struct Requests {
-    pub clock: bool,
-    pub disk: bool,
-    pub receiver: bool,
-    pub transmitter: bool,
-}
-
 /// What shows of the devices, without side effect.
 #[derive(Clone, Copy, Debug, PartialEq, Eq)]
 pub struct Devices {
-    /// The line clock.
-    pub clock: ClockShown,
-    /// The console line.
-    pub line: LineRegisters,
-    /// The disk controller.
-    pub disk: DiskRegisters,
-    /// Its drives by number, with a pack or empty.
-    pub drives: [Option<DriveShown>; 8],
+    /// The devices on the bus.
+    pub bus: BusDevices,
     /// Memory management.
     pub management: ManagementRegisters,
-    /// The requests.
-    pub requests: Requests,
 }
 
 /// What a command answers.

@@ -4,12 +4,13 @@ ghost use Rattle.p11_lines.specs.AnswerText.{clock_text, due_text, line_words_te
 ghost use Rattle.p11_lines.specs.AnswerText.{request_text, requests_text, devices_text};
 ghost use Rattle.p11_lines.specs.Calls.Writing.{Puts};
 
-use crate::answer::{ClockShown, Devices, LineRegisters, ManagementRegisters, Requests};
+use crate::answer::{Devices, ManagementRegisters};
 use crate::output::{Broken, Table, octal, put_all};
 use crate::packs::{put_disk, put_drives};
 use crate::sink::Sink;
 use arrayvec::ArrayVec;
 use itoa::Buffer;
+use p11_unibus::BusDevices;
 
 /// A due turn, or a dash.
 pub(crate) fn due_name(due: Option<u64>) -> ArrayVec<u8, 20>
@@ -26,14 +27,14 @@ pub(crate) fn due_name(due: Option<u64>) -> ArrayVec<u8, 20>
 }
 
 #[tactic(auto, unfolding(crate::specs::AnswerText::clock_text))]
-fn put_clock<W: Sink>(writer: &mut W, table: &mut Table, clock: &ClockShown) -> Result<(), Broken>
-    ensures { Puts (W.state writer.old) table.old.items (clock_text clock.now.status clock.now.period clock.now.due)
+fn put_clock<W: Sink>(writer: &mut W, table: &mut Table, devices: &BusDevices) -> Result<(), Broken>
+    ensures { Puts (W.state writer.old) table.old.items (clock_text devices.now)
         (W.state writer.new) table.new.items result }
 {
-    let status = octal(u32::from(clock.status));
+    let status = octal(u32::from(devices.clock));
     let mut buffer = Buffer::new();
-    let period = buffer.format(clock.period).as_bytes();
-    let due = due_name(clock.due);
+    let period = buffer.format(devices.clock_period).as_bytes();
+    let due = due_name(devices.clock_due);
     put_all(
         writer,
         table,
@@ -53,14 +54,14 @@ fn put_clock<W: Sink>(writer: &mut W, table: &mut Table, clock: &ClockShown) -> 
 fn put_line_words<W: Sink>(
     writer: &mut W,
     table: &mut Table,
-    line: &LineRegisters,
+    devices: &BusDevices,
 ) -> Result<(), Broken>
-    ensures { Puts (W.state writer.old) table.old.items (line_words_text line.now)
+    ensures { Puts (W.state writer.old) table.old.items (line_words_text devices.now)
         (W.state writer.new) table.new.items result }
 {
-    let receiver = octal(u32::from(line.receiver_status));
-    let character = octal(u32::from(line.receiver_buffer));
-    let transmitter = octal(u32::from(line.transmitter_status));
+    let receiver = octal(u32::from(devices.receiver_status));
+    let character = octal(u32::from(devices.receiver_buffer));
+    let transmitter = octal(u32::from(devices.transmitter_status));
     put_all(
         writer,
         table,
@@ -72,15 +73,15 @@ fn put_line_words<W: Sink>(
 fn put_line_waits<W: Sink>(
     writer: &mut W,
     table: &mut Table,
-    line: &LineRegisters,
+    devices: &BusDevices,
 ) -> Result<(), Broken>
-    ensures { Puts (W.state writer.old) table.old.items (line_waits_text line.now)
+    ensures { Puts (W.state writer.old) table.old.items (line_waits_text devices.now)
         (W.state writer.new) table.new.items result }
 {
     let mut buffer = Buffer::new();
-    let keys = buffer.format(line.keys).as_bytes();
-    let receives = due_name(line.receiver_due);
-    let types = due_name(line.transmitter_due);
+    let keys = buffer.format(devices.keys).as_bytes();
+    let receives = due_name(devices.receiver_due);
+    let types = due_name(devices.transmitter_due);
     put_all(
         writer,
         table,
@@ -96,12 +97,12 @@ fn put_line_waits<W: Sink>(
     )
 }
 
-fn put_line<W: Sink>(writer: &mut W, table: &mut Table, line: &LineRegisters) -> Result<(), Broken>
-    ensures { Puts (W.state writer.old) table.old.items (line_words_text line.now ++ line_waits_text line.now)
+fn put_line<W: Sink>(writer: &mut W, table: &mut Table, devices: &BusDevices) -> Result<(), Broken>
+    ensures { Puts (W.state writer.old) table.old.items (line_words_text devices.now ++ line_waits_text devices.now)
         (W.state writer.new) table.new.items result }
 {
-    put_line_words(writer, table, line)?;
-    put_line_waits(writer, table, line)
+    put_line_words(writer, table, devices)?;
+    put_line_waits(writer, table, devices)
 }
 
 #[tactic(auto, unfolding(crate::specs::AnswerText::management_text))]
@@ -129,9 +130,9 @@ fn request_name(request: bool) -> &'static str
 fn put_requests<W: Sink>(
     writer: &mut W,
     table: &mut Table,
-    requests: &Requests,
+    devices: &BusDevices,
 ) -> Result<(), Broken>
-    ensures { Puts (W.state writer.old) table.old.items (requests_text requests.now)
+    ensures { Puts (W.state writer.old) table.old.items (requests_text devices.now)
         (W.state writer.new) table.new.items result }
 {
     put_all(
@@ -139,13 +140,13 @@ fn put_requests<W: Sink>(
         table,
         &[
             b"REQ ",
-            request_name(requests.clock).as_bytes(),
+            request_name(devices.clock_request).as_bytes(),
             b" ",
-            request_name(requests.disk).as_bytes(),
+            request_name(devices.disk_request).as_bytes(),
             b" ",
-            request_name(requests.receiver).as_bytes(),
+            request_name(devices.receiver_request).as_bytes(),
             b" ",
-            request_name(requests.transmitter).as_bytes(),
+            request_name(devices.transmitter_request).as_bytes(),
             b"\n",
         ],
     )
@@ -159,10 +160,10 @@ pub(crate) fn put_devices<W: Sink>(
     ensures { Puts (W.state writer.old) table.old.items (devices_text devices.now)
         (W.state writer.new) table.new.items result }
 {
-    put_clock(writer, table, &devices.clock)?;
-    put_line(writer, table, &devices.line)?;
-    put_disk(writer, table, &devices.disk)?;
-    put_drives(writer, table, &devices.drives)?;
+    put_clock(writer, table, &devices.bus)?;
+    put_line(writer, table, &devices.bus)?;
+    put_disk(writer, table, &devices.bus.disk)?;
+    put_drives(writer, table, &devices.bus.drives)?;
     put_management(writer, table, &devices.management)?;
-    put_requests(writer, table, &devices.requests)
+    put_requests(writer, table, &devices.bus)
 }

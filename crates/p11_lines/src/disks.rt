@@ -1,8 +1,8 @@
 // From the words of a line about a drive to the line.
 ghost use Rattle.std.specs.Prelude.{◌≡◌};
 ghost use Rattle.std.specs.List.{list_all};
-ghost use Rattle.p11_lines.specs.Grammar.{words_of, word_from, is_graphic, is_name, access_from, mount_from, save_from};
-ghost use Rattle.p11_lines.specs.Grammar.{drive_from, disk_line_from};
+ghost use Rattle.p11_lines.specs.Grammar.{words_of, word_from, is_graphic, is_name, name_from, access_from};
+ghost use Rattle.p11_lines.specs.Grammar.{two_words, word_and};
 ghost use Rattle.p11_lines.specs.Calls.Reading.{Reads};
 
 use crate::bytes::Bytes;
@@ -12,7 +12,7 @@ use crate::parse::{next_word, number};
 use std::alloc::Allocator;
 
 /// The number of a drive.
-fn drive(digits: &[u8]) -> Option<u32>
+pub(crate) fn drive(digits: &[u8]) -> Option<u32>
     ensures { result ≡ word_from digits.now }
 {
     number(8, 6, 0o177_777, digits)
@@ -53,9 +53,9 @@ fn access(word: &[u8]) -> Option<bool>
     None
 }
 
-#[tactic(auto, unfolding(crate::specs::Grammar::mount_from, crate::specs::Grammar::name_from))]
-fn mount<A: Allocator>(alloc: A, args: &[u8]) -> Result<Line<A>, Fault>
-    ensures { Reads result (mount_from (words_of args.now)) }
+#[tactic(auto, unfolding(crate::specs::Grammar::word_and, crate::specs::Grammar::no_word, crate::specs::Grammar::name_from))]
+pub(crate) fn mount<A: Allocator>(alloc: A, args: &[u8]) -> Result<Line<A>, Fault>
+    ensures { Reads result (word_and word_from (two_words name_from access_from) Line.Mount (words_of args.now)) }
 {
     let Some((first, args)) = next_word(args) else {
         return Err(Fault::BadLine);
@@ -86,9 +86,9 @@ fn mount<A: Allocator>(alloc: A, args: &[u8]) -> Result<Line<A>, Fault>
     })
 }
 
-#[tactic(auto, unfolding(crate::specs::Grammar::save_from, crate::specs::Grammar::name_from))]
-fn save<A: Allocator>(alloc: A, args: &[u8]) -> Result<Line<A>, Fault>
-    ensures { Reads result (save_from (words_of args.now)) }
+#[tactic(auto, unfolding(crate::specs::Grammar::word_and, crate::specs::Grammar::no_word, crate::specs::Grammar::name_from))]
+pub(crate) fn save<A: Allocator>(alloc: A, args: &[u8]) -> Result<Line<A>, Fault>
+    ensures { Reads result (two_words word_from name_from Line.Save (words_of args.now)) }
 {
     let Some((first, args)) = next_word(args) else {
         return Err(Fault::BadLine);
@@ -107,48 +107,4 @@ fn save<A: Allocator>(alloc: A, args: &[u8]) -> Result<Line<A>, Fault>
     }
     let name = Bytes::from_vec(Vec::from_slice(alloc, name)?);
     Ok(Line::Save { drive, name })
-}
-
-#[tactic(auto, unfolding(crate::specs::Grammar::drive_from))]
-fn unmount<A: Allocator>(args: &[u8]) -> Option<Line<A>>
-    ensures { result ≡ drive_from (λ drive. Line.Unmount drive) (words_of args.now) }
-{
-    let (first, args) = next_word(args)?;
-    let drive = drive(first)?;
-    if next_word(args).is_some() {
-        return None;
-    }
-    Some(Line::Unmount { drive })
-}
-
-#[tactic(auto, unfolding(crate::specs::Grammar::drive_from))]
-fn changed<A: Allocator>(args: &[u8]) -> Option<Line<A>>
-    ensures { result ≡ drive_from (λ drive. Line.Changed drive) (words_of args.now) }
-{
-    let (first, args) = next_word(args)?;
-    let drive = drive(first)?;
-    if next_word(args).is_some() {
-        return None;
-    }
-    Some(Line::Changed { drive })
-}
-
-/// The line about a drive that a command of this name and its words are.
-#[tactic(auto, unfolding(crate::specs::Grammar::disk_line_from))]
-pub(crate) fn disk_line<A: Allocator>(alloc: A, name: &[u8], args: &[u8]) -> Result<Line<A>, Fault>
-    ensures { Reads result (disk_line_from name.now (words_of args.now)) }
-{
-    if name == b"mount".as_slice() {
-        return mount(alloc, args);
-    }
-    if name == b"unmount".as_slice() {
-        return unmount(args).ok_or(Fault::BadLine);
-    }
-    if name == b"save".as_slice() {
-        return save(alloc, args);
-    }
-    if name == b"changed".as_slice() {
-        return changed(args).ok_or(Fault::BadLine);
-    }
-    Err(Fault::BadLine)
 }

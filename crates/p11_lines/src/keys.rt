@@ -1,6 +1,6 @@
 // From the text of a `key` line to the bytes that its keys give.
 ghost use Rattle.std.specs.Prelude.{◌≡◌, ◌<◌, ◌≤◌, ◌∷◌, length, is_some, option_and_then, IfSome, MatchOption};
-ghost use Rattle.p11_lines.specs.Grammar.{words_of, escape_from, bytes_from, key_from};
+ghost use Rattle.p11_lines.specs.Grammar.{words_of, escape_from, bytes_from, one_word};
 ghost use Rattle.p11_lines.specs.Calls.Reading.{GivesList, Reads};
 
 use crate::bytes::Bytes;
@@ -80,9 +80,9 @@ fn bytes<A: Allocator>(alloc: A, text: &[u8]) -> Result<Vec<u8, A>, Fault>
     Ok(bytes)
 }
 
-#[tactic(auto, unfolding(crate::specs::Grammar::key_from))]
+#[tactic(auto, unfolding(crate::specs::Grammar::word_and, crate::specs::Grammar::no_word))]
 pub(crate) fn key<A: Allocator>(alloc: A, args: &[u8]) -> Result<Line<A>, Fault>
-    ensures { Reads result (key_from (words_of args.now)) }
+    ensures { Reads result (one_word bytes_from Line.Key (words_of args.now)) }
 {
     let Some((text, args)) = next_word(args) else {
         return Err(Fault::BadLine);

@@ -18,10 +18,7 @@ mod tapes;
 mod text;
 mod words;
 
-pub use answer::{
-    Answer, ClockShown, Devices, DiskRegisters, DriveShown, LineRegisters, ManagementRegisters,
-    Mark, Registers, Requests, StopReason,
-};
+pub use answer::{Answer, Devices, ManagementRegisters, Mark, Registers, StopReason};
 pub use bytes::Bytes;
 pub use fault::{Fault, NoMemory};
 pub use line::Line;

@@ -4,12 +4,12 @@ ghost use Rattle.p11_lines.specs.AnswerText.{disk_text, disk_due_text, pack_text
 ghost use Rattle.p11_lines.specs.AnswerText.{numbers_text, sectors_text};
 ghost use Rattle.p11_lines.specs.Calls.Writing.{Puts};
 
-use crate::answer::{DiskRegisters, DriveShown};
 use crate::devices::due_name;
 use crate::output::{Broken, Table, put, put_all, put_spaced};
 use crate::sink::Sink;
 use crate::text::access_name;
 use itoa::Buffer;
+use p11_unibus::{DiskRegisters, DriveShown};
 
 /// Puts a number behind its name.
 fn put_numbered<W: Sink>(
@@ -42,16 +42,16 @@ pub(crate) fn put_disk<W: Sink>(
         (W.state writer.new) table.new.items result }
 {
     let registers = [
-        disk.status,
-        disk.errors,
-        disk.control,
+        disk.drive_status,
+        disk.error,
+        disk.control_status,
         disk.word_count,
         disk.bus_address,
         disk.disk_address,
     ];
     put(writer, table, b"RK11")?;
     put_spaced(writer, table, &registers)?;
-    put_disk_due(writer, table, disk.due)
+    put_disk_due(writer, table, disk.transfer_due)
 }
 
 /// Puts what a drive with a pack shows.

@@ -1,13 +1,13 @@
 // From the bytes of a line to the line.
-ghost use Rattle.std.specs.Prelude.{◌≡◌, ◌<◌, ◌≤◌, ◌∷◌, [], length, true, not, is_some, IfSome, MatchOption};
+ghost use Rattle.std.specs.Prelude.{◌≡◌, ◌<◌, ◌≤◌, ◌∷◌, [], drop, length, true, not, is_some, IfSome, MatchOption};
 ghost use Rattle.std.specs.List.{position};
 ghost use Rattle.std.specs.Str.Parse.{digits_value};
 ghost use Rattle.p11_lines.specs.Grammar.{is_blank, words_of, all_digits, number_from, address_from, word_from};
-ghost use Rattle.p11_lines.specs.Grammar.{count_from, all_words_from, examine_from, deposit_from, start_from};
-ghost use Rattle.p11_lines.specs.Grammar.{clock_from, plain_from, period_from, switches_from, set_from, turns_from, line_from};
+ghost use Rattle.p11_lines.specs.Grammar.{count_from, period_from, all_words_from, no_word, word_and, one_word, two_words};
+ghost use Rattle.p11_lines.specs.Grammar.{count_or_none, some_words, commands, line_by, line_from};
 ghost use Rattle.p11_lines.specs.Calls.Reading.{Reads, GivesList};
 
-use crate::disks::disk_line;
+use crate::disks::{drive, mount, save};
 use crate::fault::Fault;
 use crate::keys::key;
 use crate::line::Line;
@@ -134,9 +134,20 @@ fn count(digits: &[u8]) -> Option<u32>
     Some(count)
 }
 
-#[tactic(auto, unfolding(crate::specs::Grammar::examine_from))]
+/// The line, if no word is left.
+#[tactic(auto, unfolding(crate::specs::Grammar::no_word))]
+fn no_word<A: Allocator>(line: Line<A>, args: &[u8]) -> Option<Line<A>>
+    ensures { result ≡ no_word line (words_of args.now) }
+{
+    if next_word(args).is_some() {
+        return None;
+    }
+    Some(line)
+}
+
+#[tactic(auto, unfolding(crate::specs::Grammar::count_or_none, crate::specs::Grammar::word_and))]
 fn examine<A: Allocator>(args: &[u8]) -> Option<Line<A>>
-    ensures { result ≡ examine_from (words_of args.now) }
+    ensures { result ≡ word_and address_from count_or_none Line.Examine (words_of args.now) }
 {
     let (first, args) = next_word(args)?;
     let address = address(first)?;
@@ -144,95 +155,81 @@ fn examine<A: Allocator>(args: &[u8]) -> Option<Line<A>>
         return Some(Line::Examine { address, count: 1 });
     };
     let count = count(second)?;
-    if next_word(args).is_some() {
-        return None;
-    }
-    Some(Line::Examine { address, count })
+    no_word(Line::Examine { address, count }, args)
 }
 
-#[tactic(auto, unfolding(crate::specs::Grammar::start_from))]
+#[tactic(auto, unfolding(crate::specs::Grammar::word_and))]
+fn unmount<A: Allocator>(args: &[u8]) -> Option<Line<A>>
+    ensures { result ≡ one_word word_from Line.Unmount (words_of args.now) }
+{
+    let (first, args) = next_word(args)?;
+    let drive = drive(first)?;
+    no_word(Line::Unmount { drive }, args)
+}
+
+#[tactic(auto, unfolding(crate::specs::Grammar::word_and))]
+fn changed<A: Allocator>(args: &[u8]) -> Option<Line<A>>
+    ensures { result ≡ one_word word_from Line.Changed (words_of args.now) }
+{
+    let (first, args) = next_word(args)?;
+    let drive = drive(first)?;
+    no_word(Line::Changed { drive }, args)
+}
+
+#[tactic(auto, unfolding(crate::specs::Grammar::word_and))]
 fn start<A: Allocator>(args: &[u8]) -> Option<Line<A>>
-    ensures { result ≡ start_from (words_of args.now) }
+    ensures { result ≡ one_word word_from Line.Start (words_of args.now) }
 {
     let (first, args) = next_word(args)?;
     let address = word(first)?;
-    if next_word(args).is_some() {
-        return None;
-    }
-    Some(Line::Start { address })
+    no_word(Line::Start { address }, args)
 }
 
-#[tactic(auto, unfolding(crate::specs::Grammar::set_from))]
+#[tactic(auto, unfolding(crate::specs::Grammar::word_and))]
+fn clock<A: Allocator>(args: &[u8]) -> Option<Line<A>>
+    ensures { result ≡ one_word period_from Line.Clock (words_of args.now) }
+{
+    let (first, args) = next_word(args)?;
+    let period = period(first)?;
+    no_word(Line::Clock { period }, args)
+}
+
+#[tactic(auto, unfolding(crate::specs::Grammar::word_and))]
+fn switches<A: Allocator>(args: &[u8]) -> Option<Line<A>>
+    ensures { result ≡ one_word word_from Line.Switches (words_of args.now) }
+{
+    let (first, args) = next_word(args)?;
+    let word = word(first)?;
+    no_word(Line::Switches { word }, args)
+}
+
+#[tactic(auto, unfolding(crate::specs::Grammar::word_and))]
 fn set<A: Allocator>(args: &[u8]) -> Option<Line<A>>
-    ensures { result ≡ set_from (words_of args.now) }
+    ensures { result ≡ two_words word_from word_from Line.Set (words_of args.now) }
 {
     let (first, args) = next_word(args)?;
     let register = word(first)?;
     let (second, args) = next_word(args)?;
     let value = word(second)?;
-    if next_word(args).is_some() {
-        return None;
-    }
-    Some(Line::Set { register, value })
+    no_word(Line::Set { register, value }, args)
 }
 
-#[tactic(auto, unfolding(crate::specs::Grammar::clock_from))]
-fn clock<A: Allocator>(args: &[u8]) -> Option<Line<A>>
-    ensures { result ≡ clock_from (words_of args.now) }
-{
-    let (first, args) = next_word(args)?;
-    let period = period(first)?;
-    if next_word(args).is_some() {
-        return None;
-    }
-    Some(Line::Clock { period })
-}
-
-#[tactic(auto, unfolding(crate::specs::Grammar::switches_from))]
-fn switches<A: Allocator>(args: &[u8]) -> Option<Line<A>>
-    ensures { result ≡ switches_from (words_of args.now) }
-{
-    let (first, args) = next_word(args)?;
-    let word = word(first)?;
-    if next_word(args).is_some() {
-        return None;
-    }
-    Some(Line::Switches { word })
-}
-
-#[tactic(auto, unfolding(crate::specs::Grammar::turns_from))]
+#[tactic(auto, unfolding(crate::specs::Grammar::word_and))]
 fn step<A: Allocator>(args: &[u8]) -> Option<Line<A>>
-    ensures { result ≡ turns_from (λ turns. Line.Step turns) (words_of args.now) }
+    ensures { result ≡ one_word count_from Line.Step (words_of args.now) }
 {
     let (first, args) = next_word(args)?;
     let turns = count(first)?;
-    if next_word(args).is_some() {
-        return None;
-    }
-    Some(Line::Step { turns })
+    no_word(Line::Step { turns }, args)
 }
 
-#[tactic(auto, unfolding(crate::specs::Grammar::turns_from))]
+#[tactic(auto, unfolding(crate::specs::Grammar::word_and))]
 fn go_on<A: Allocator>(args: &[u8]) -> Option<Line<A>>
-    ensures { result ≡ turns_from (λ turns. Line.Continue turns) (words_of args.now) }
+    ensures { result ≡ one_word count_from Line.Continue (words_of args.now) }
 {
     let (first, args) = next_word(args)?;
     let turns = count(first)?;
-    if next_word(args).is_some() {
-        return None;
-    }
-    Some(Line::Continue { turns })
-}
-
-/// A command that is its name alone.
-#[tactic(auto, unfolding(crate::specs::Grammar::plain_from))]
-fn plain<A: Allocator>(line: Line<A>, args: &[u8]) -> Option<Line<A>>
-    ensures { result ≡ plain_from line (words_of args.now) }
-{
-    if next_word(args).is_some() {
-        return None;
-    }
-    Some(line)
+    no_word(Line::Continue { turns }, args)
 }
 
 /// Whether each word of the line is a word of the machine.
@@ -267,9 +264,9 @@ fn words<A: Allocator>(alloc: A, args: &[u8]) -> Result<Vec<u16, A>, Fault>
     Ok(words)
 }
 
-#[tactic(auto, unfolding(crate::specs::Grammar::deposit_from))]
+#[tactic(auto, unfolding(crate::specs::Grammar::word_and, crate::specs::Grammar::some_words))]
 fn deposit<A: Allocator>(alloc: A, args: &[u8]) -> Result<Line<A>, Fault>
-    ensures { Reads result (deposit_from (words_of args.now)) }
+    ensures { Reads result (word_and address_from some_words Line.Deposit (words_of args.now)) }
 {
     let Some((first, args)) = next_word(args) else {
         return Err(Fault::BadLine);
@@ -290,11 +287,66 @@ fn deposit<A: Allocator>(alloc: A, args: &[u8]) -> Result<Line<A>, Fault>
     })
 }
 
+/// The line that a command about the processor is.
+#[tactic(auto, unfolding(crate::specs::Grammar::line_by))]
+fn processor_line<A: Allocator>(name: &[u8], args: &[u8]) -> Option<Line<A>>
+    ensures { result ≡ line_by (drop 11 commands) name.now (words_of args.now) }
+{
+    if name == b"start".as_slice() {
+        return start(args);
+    }
+    if name == b"switches".as_slice() {
+        return switches(args);
+    }
+    if name == b"set".as_slice() {
+        return set(args);
+    }
+    if name == b"step".as_slice() {
+        return step(args);
+    }
+    if name == b"continue".as_slice() {
+        return go_on(args);
+    }
+    if name == b"regs".as_slice() {
+        return no_word(Line::Regs, args);
+    }
+    if name == b"flush".as_slice() {
+        return no_word(Line::Flush, args);
+    }
+    None
+}
+
+/// The line that a command is which takes no memory: about the bus, or else about the processor.
+#[tactic(auto, unfolding(crate::specs::Grammar::line_by))]
+fn fixed_line<A: Allocator>(name: &[u8], args: &[u8]) -> Option<Line<A>>
+    ensures { result ≡ line_by (drop 5 commands) name.now (words_of args.now) }
+{
+    if name == b"unmount".as_slice() {
+        return unmount(args);
+    }
+    if name == b"changed".as_slice() {
+        return changed(args);
+    }
+    if name == b"examine".as_slice() {
+        return examine(args);
+    }
+    if name == b"tick".as_slice() {
+        return no_word(Line::Tick, args);
+    }
+    if name == b"clock".as_slice() {
+        return clock(args);
+    }
+    if name == b"device".as_slice() {
+        return no_word(Line::Device, args);
+    }
+    processor_line(name, args)
+}
+
 /// Reads a line, which has no end of line with it.
 ///
 /// `BadLine` for bytes that are no line; blank lines and remarks are none. `NoMemory` only for a
 /// line that holds a list or a name: memory is asked for last, so a line in error is always known as such.
-#[tactic(auto, unfolding(crate::specs::Grammar::line_from, crate::specs::Grammar::line_from_words))]
+#[tactic(auto, unfolding(crate::specs::Grammar::line_from, crate::specs::Grammar::line_from_words, crate::specs::Grammar::line_by))]
 pub fn parse_line<A: Allocator>(alloc: A, line: &[u8]) -> Result<Line<A>, Fault>
     ensures { Reads result (line_from line.now) }
 {
@@ -304,47 +356,20 @@ pub fn parse_line<A: Allocator>(alloc: A, line: &[u8]) -> Result<Line<A>, Fault>
     let Some((name, args)) = next_word(line) else {
         return Err(Fault::BadLine);
     };
-    if name == b"examine".as_slice() {
-        return examine(args).ok_or(Fault::BadLine);
+    if name == b"mount".as_slice() {
+        return mount(alloc, args);
     }
-    if name == b"deposit".as_slice() {
-        return deposit(alloc, args);
-    }
-    if name == b"start".as_slice() {
-        return start(args).ok_or(Fault::BadLine);
-    }
-    if name == b"key".as_slice() {
-        return key(alloc, args);
-    }
-    if name == b"tick".as_slice() {
-        return plain(Line::Tick, args).ok_or(Fault::BadLine);
-    }
-    if name == b"clock".as_slice() {
-        return clock(args).ok_or(Fault::BadLine);
-    }
-    if name == b"switches".as_slice() {
-        return switches(args).ok_or(Fault::BadLine);
-    }
-    if name == b"set".as_slice() {
-        return set(args).ok_or(Fault::BadLine);
-    }
-    if name == b"step".as_slice() {
-        return step(args).ok_or(Fault::BadLine);
-    }
-    if name == b"continue".as_slice() {
-        return go_on(args).ok_or(Fault::BadLine);
-    }
-    if name == b"regs".as_slice() {
-        return plain(Line::Regs, args).ok_or(Fault::BadLine);
-    }
-    if name == b"device".as_slice() {
-        return plain(Line::Device, args).ok_or(Fault::BadLine);
-    }
-    if name == b"flush".as_slice() {
-        return plain(Line::Flush, args).ok_or(Fault::BadLine);
+    if name == b"save".as_slice() {
+        return save(alloc, args);
     }
     if name == b"load".as_slice() {
         return load(alloc, args);
     }
-    disk_line(alloc, name, args)
+    if name == b"deposit".as_slice() {
+        return deposit(alloc, args);
+    }
+    if name == b"key".as_slice() {
+        return key(alloc, args);
+    }
+    fixed_line(name, args).ok_or(Fault::BadLine)
 }

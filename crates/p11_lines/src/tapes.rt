@@ -1,7 +1,7 @@
 // The line that reads a tape in, and its answer.
 ghost use Rattle.std.specs.Prelude.{◌≡◌, ◌++◌, IfOk, codes};
 ghost use Rattle.p11_lines.specs.AnswerText.{tape_text};
-ghost use Rattle.p11_lines.specs.Grammar.{words_of, load_from};
+ghost use Rattle.p11_lines.specs.Grammar.{words_of, name_from, one_word};
 ghost use Rattle.p11_lines.specs.Calls.Reading.{Reads};
 ghost use Rattle.p11_lines.specs.Calls.Writing.{Puts};
 
@@ -15,9 +15,9 @@ use crate::sink::Sink;
 use itoa::Buffer;
 use std::alloc::Allocator;
 
-#[tactic(auto, unfolding(crate::specs::Grammar::load_from, crate::specs::Grammar::name_from))]
+#[tactic(auto, unfolding(crate::specs::Grammar::word_and, crate::specs::Grammar::no_word, crate::specs::Grammar::name_from))]
 pub(crate) fn load<A: Allocator>(alloc: A, args: &[u8]) -> Result<Line<A>, Fault>
-    ensures { Reads result (load_from (words_of args.now)) }
+    ensures { Reads result (one_word name_from Line.Load (words_of args.now)) }
 {
     let Some((name, args)) = next_word(args) else {
         return Err(Fault::BadLine);

@@ -1,9 +1,9 @@
 // From a line to its text.
-ghost use Rattle.std.specs.Prelude.{◌≡◌, ◌++◌, ◌∷◌, IfOk, OnOk, string_bytes, codes};
+ghost use Rattle.std.specs.Prelude.{◌≡◌, ◌++◌, ◌∷◌, map, IfOk, OnOk, string_bytes, codes};
 ghost use Rattle.std.specs.List.{flat_map};
 ghost use Rattle.p11_lines.specs.Escapes.{escaped, escaped_byte};
 ghost use Rattle.p11_lines.specs.Grammar.{access_text};
-ghost use Rattle.p11_lines.specs.Calls.LineText.{line_text, octal, ReadsBack};
+ghost use Rattle.p11_lines.specs.Calls.LineText.{line_text, octal, with_spaces, ReadsBack};
 
 use crate::escape::{escape, is_plain};
 use crate::fault::NoMemory;
@@ -85,6 +85,16 @@ fn save_text<A: Allocator>(alloc: A, drive: u32, name: &[u8]) -> Result<Vec<u8, 
     Ok(text)
 }
 
+#[tactic(auto, using(crate::proofs::Lists::with_spaces_octals))]
+fn deposit_text<A: Allocator>(alloc: A, address: u32, words: &[u16]) -> Result<Vec<u8, A>, NoMemory>
+    ensures { IfOk result (λ text. text.items
+        ≡ with_spaces (codes "deposit" ∷ octal address ∷ map octal words.now)) }
+{
+    let mut text = format!(in alloc; "deposit {address:o}")?;
+    push_words(&mut text, words)?;
+    Ok(text.into_bytes())
+}
+
 /// The text of a line, with one space between words and no zeros at the front of a number.
 #[tactic(auto, unfolding(crate::specs::Calls::LineText::line_text))]
 pub fn line_of<A: Allocator>(alloc: A, line: &Line<A>) -> Result<Vec<u8, A>, NoMemory>
@@ -103,9 +113,7 @@ pub fn line_of<A: Allocator>(alloc: A, line: &Line<A>) -> Result<Vec<u8, A>, NoM
         Line::Key { text } => return key_text(alloc, text.as_slice()),
         Line::Examine { address, count } => format!(in alloc; "examine {address:o} {count}")?,
         Line::Deposit { address, words } => {
-            let mut text = format!(in alloc; "deposit {address:o}")?;
-            push_words(&mut text, words.as_slice())?;
-            text
+            return deposit_text(alloc, *address, words.as_slice());
         }
         Line::Start { address } => format!(in alloc; "start {address:o}")?,
         Line::Set { register, value } => format!(in alloc; "set {register:o} {value:o}")?,

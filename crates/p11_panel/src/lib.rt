@@ -31,10 +31,10 @@ pub use laws::{
 };
 pub use memory_store::MemoryStore;
 pub use p11_lines::{
-    Answer, Bytes, Devices, DiskRegisters, DriveShown, Fault, Line, LineRegisters,
-    ManagementRegisters, Mark, NoMemory, Registers, Requests, Sink, StdWriter, StopReason, Words,
-    line_of, parse_line,
+    Answer, Bytes, Devices, Fault, Line, ManagementRegisters, Mark, NoMemory, Registers, Sink,
+    StdWriter, StopReason, Words, line_of, parse_line,
 };
+pub use p11_unibus::{BusDevices, DiskRegisters, DriveShown};
 pub use panel::Panel;
 pub use playing::play;
 pub use script::{SessionFault, session};

@@ -1,6 +1,5 @@
 -- The text of a line: one space between words, numbers without leading zeros, and bytes escaped where they have to be.
-use Rattle.std.specs.Prelude.{ℕ, ◌≡◌, ◌<◌, ◌≤◌, true, false, List, ◌∷◌, ◌++◌, length, All, Some, codes}
-use Rattle.std.specs.List.{flat_map}
+use Rattle.std.specs.Prelude.{ℕ, ◌≡◌, ◌<◌, ◌≤◌, true, false, List, [], ◌∷◌, ◌++◌, length, map, All, Some, codes}
 use Rattle.std.specs.Fmt.{digits, decimal}
 use Rattle.p11_lines.specs.declared.line.Line.{Line}
 use Rattle.p11_lines.specs.declared.line.Line.TheVariants.{Mount, Unmount, Save, Changed, Load, Examine, Deposit, Start, Key}
@@ -12,25 +11,35 @@ use Rattle.p11_lines.specs.Grammar.{is_name, access_text, line_from}
 abbrev pub octal : ℕ → List ℕ
 octal number = digits 8 false number
 
+-- the words of a line, the command's name first
+abbrev pub line_words : {A : Type 0} → Line A → List (List ℕ)
+line_words (Mount drive name protect) = codes "mount" ∷ octal drive ∷ name ∷ access_text protect ∷ []
+line_words (Unmount drive) = codes "unmount" ∷ octal drive ∷ []
+line_words (Save drive name) = codes "save" ∷ octal drive ∷ name ∷ []
+line_words (Changed drive) = codes "changed" ∷ octal drive ∷ []
+line_words (Load name) = codes "load" ∷ name ∷ []
+line_words (Examine address count) = codes "examine" ∷ octal address ∷ decimal count ∷ []
+line_words (Deposit address words) = codes "deposit" ∷ octal address ∷ map octal words
+line_words (Start address) = codes "start" ∷ octal address ∷ []
+line_words (Key text) = codes "key" ∷ escaped text ∷ []
+line_words Tick = codes "tick" ∷ []
+line_words (Clock period) = codes "clock" ∷ decimal period ∷ []
+line_words (Switches word) = codes "switches" ∷ octal word ∷ []
+line_words (Set register value) = codes "set" ∷ octal register ∷ octal value ∷ []
+line_words (Step turns) = codes "step" ∷ decimal turns ∷ []
+line_words (Continue turns) = codes "continue" ∷ decimal turns ∷ []
+line_words Regs = codes "regs" ∷ []
+line_words Device = codes "device" ∷ []
+line_words Flush = codes "flush" ∷ []
+
+-- words, and a space between each two
+abbrev pub with_spaces : List (List ℕ) → List ℕ
+with_spaces [] = []
+with_spaces (word ∷ []) = word
+with_spaces (word ∷ next ∷ rest) = word ++ 32 ∷ with_spaces (next ∷ rest)
+
 unfoldable pub line_text : {A : Type 0} → Line A → List ℕ
-line_text (Mount drive name protect) = codes "mount " ++ octal drive ++ 32 ∷ (name ++ 32 ∷ access_text protect)
-line_text (Unmount drive) = codes "unmount " ++ octal drive
-line_text (Save drive name) = codes "save " ++ octal drive ++ 32 ∷ name
-line_text (Changed drive) = codes "changed " ++ octal drive
-line_text (Load name) = codes "load " ++ name
-line_text (Examine address count) = codes "examine " ++ octal address ++ 32 ∷ decimal count
-line_text (Deposit address words) = codes "deposit " ++ octal address ++ flat_map (λ word. 32 ∷ octal word) words
-line_text (Start address) = codes "start " ++ octal address
-line_text (Key text) = codes "key " ++ escaped text
-line_text Tick = codes "tick"
-line_text (Clock period) = codes "clock " ++ decimal period
-line_text (Switches word) = codes "switches " ++ octal word
-line_text (Set register value) = codes "set " ++ octal register ++ 32 ∷ octal value
-line_text (Step turns) = codes "step " ++ decimal turns
-line_text (Continue turns) = codes "continue " ++ decimal turns
-line_text Regs = codes "regs"
-line_text Device = codes "device"
-line_text Flush = codes "flush"
+line_text line = with_spaces (line_words line)
 
 -- a count that a line can show
 abbrev pub FitsCount : ℕ → Type 0
