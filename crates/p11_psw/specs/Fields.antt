@@ -1,5 +1,5 @@
 -- The fields of the processor status word as numbers.
-use Rattle.std.specs.Prelude.{ℕ, ◌/◌, ◌%◌, Bool, ◌==◌, if◌then◌else◌}
+use Rattle.std.specs.Prelude.{ℕ, ◌/◌, ◌%◌, Bool, ◌==◌, if◌then◌else◌, [], ◌∷◌, slice_index_or}
 use Rattle.p11_psw.specs.declared.mode.Mode.{Mode}
 use Rattle.p11_psw.specs.declared.mode.Mode.TheVariants.{Kernel, Mode01, Mode10, User}
 use Rattle.p11_psw.specs.declared.priority.Priority.{Priority}
@@ -14,7 +14,7 @@ mode_number User = 3
 
 -- the mode that two bits say
 abbrev pub mode_at : ℕ → Mode
-mode_at n = if n == 0 then Kernel else (if n == 1 then Mode01 else (if n == 2 then Mode10 else User))
+mode_at n = slice_index_or (Kernel ∷ Mode01 ∷ Mode10 ∷ []) n User
 
 -- the mode whose two bits are each set where the bit of one mode or of the other is
 abbrev pub joined_mode : Mode → Mode → Mode
@@ -37,15 +37,7 @@ priority_number Level7 = 7
 
 -- the priority that three bits say
 abbrev pub priority_at : ℕ → Priority
-priority_at n =
-    if n == 0 then Level0
-    else (if n == 1 then Level1
-    else (if n == 2 then Level2
-    else (if n == 3 then Level3
-    else (if n == 4 then Level4
-    else (if n == 5 then Level5
-    else (if n == 6 then Level6
-    else Level7))))))
+priority_at n = slice_index_or (Level0 ∷ Level1 ∷ Level2 ∷ Level3 ∷ Level4 ∷ Level5 ∷ Level6 ∷ []) n Level7
 
 -- a flag as a number: its weight or 0
 abbrev pub flag : Bool → ℕ → ℕ
