@@ -1,5 +1,6 @@
 -- The controller's registers: what each shows, and what each event makes of them.
-use Rattle.std.specs.Prelude.{ℕ, ◌+◌, ◌-◌, ◌*◌, ◌/◌, ◌%◌, min, Bool, true, false, not, ◌==◌, ◌&&◌, ◌||◌, nat_le, Option, Some, None, is_some, if◌then◌else◌}
+use Rattle.std.specs.Prelude.{ℕ, ◌+◌, ◌-◌, ◌*◌, ◌/◌, ◌%◌, min, Bool, true, false, not, ◌==◌, ◌&&◌, ◌||◌, nat_eq, nat_le, Option, Some, None, is_some, if◌then◌else◌, [], ◌∷◌}
+use Rattle.std.specs.Map.{lookup}
 use Rattle.p11_rk11.specs.declared.registers.Registers.{Registers}
 use Rattle.p11_rk11.specs.declared.register.Register.{Register}
 use Rattle.p11_rk11.specs.declared.register.Register.TheVariants as register
@@ -14,14 +15,14 @@ use Rattle.p11_rk11.specs.Place.{place_of_word, next_place}
 -- Nothing answers at 777414.
 unfoldable pub register_at : ℕ → Option Register
 register_at address =
-    if address == 0o777400 then Some register.DriveStatus
-    else (if address == 0o777402 then Some register.Error
-    else (if address == 0o777404 then Some register.ControlStatus
-    else (if address == 0o777406 then Some register.WordCount
-    else (if address == 0o777410 then Some register.BusAddress
-    else (if address == 0o777412 then Some register.DiskAddress
-    else (if address == 0o777416 then Some register.DataBuffer
-    else None))))))
+    lookup (nat_eq address)
+    ((0o777400, register.DriveStatus)
+    ∷ (0o777402, register.Error)
+    ∷ (0o777404, register.ControlStatus)
+    ∷ (0o777406, register.WordCount)
+    ∷ (0o777410, register.BusAddress)
+    ∷ (0o777412, register.DiskAddress)
+    ∷ (0o777416, register.DataBuffer) ∷ [])
 
 -- whether the bit with this weight is set in a word
 abbrev pub bit_of : ℕ → ℕ → Bool
