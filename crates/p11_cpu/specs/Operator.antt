@@ -1,5 +1,5 @@
 -- What the operator does to the processor and to memory between turns, and a new machine.
-use Rattle.std.specs.Prelude.{ℕ, replicate, false, Bool, Option, Some, None, ◌==◌, if◌then◌else◌}
+use Rattle.std.specs.Prelude.{ℕ, replicate, slice_get, [], ◌∷◌, false, Bool, Option, Some, None}
 use Rattle.p11_decode.specs.declared.operand.Register.TheVariants as registers
 use Rattle.p11_kt11.specs.Management.{new_management}
 use Rattle.p11_psw.specs.declared.mode.Mode.TheVariants.{Kernel}
@@ -52,18 +52,7 @@ deposit_of pa word s = with_hardware (change s.turns pa word (hardware_of s)) s
 
 -- the registers that the operator can set, by their numbers
 unfoldable pub console_register : ℕ → Option ConsoleRegister
-console_register n =
-    if n == 0 then Some R0
-    else (if n == 1 then Some R1
-    else (if n == 2 then Some R2
-    else (if n == 3 then Some R3
-    else (if n == 4 then Some R4
-    else (if n == 5 then Some R5
-    else (if n == 6 then Some KernelSp
-    else (if n == 7 then Some Pc
-    else (if n == 0o10 then Some UserSp
-    else (if n == 0o11 then Some Status
-    else None)))))))))
+console_register n = slice_get (R0 ∷ R1 ∷ R2 ∷ R3 ∷ R4 ∷ R5 ∷ KernelSp ∷ Pc ∷ UserSp ∷ Status ∷ []) n
 
 -- the operator's setting of a register: the status word takes every bit but 11:8, T among them
 abbrev pub with_console_register : ConsoleRegister → ℕ → Processor → Processor
