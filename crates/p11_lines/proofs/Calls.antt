@@ -36,7 +36,7 @@ calls_last a b c m call first second =
 pub Writes-none : (a : WriterState) → Writes a a [] []
 Writes-none a = record { bytes = Appends-nil a.bytes; count = 0; writes = calls_none a.writes }
 
--- a text, and one behind it
+-- a text, and one after it
 pub Writes-trans : (a b c : WriterState) (x y : List ℕ) (last : List Bool) → Writes a b x [] → Writes b c y last → Writes a c (x ++ y) last
 Writes-trans a b c x y last first second = record {
   bytes = Appends-trans a.bytes b.bytes c.bytes x y first.bytes second.bytes;

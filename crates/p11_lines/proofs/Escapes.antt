@@ -1,8 +1,8 @@
 -- The bytes that a text writes, one after the other.
-use Rattle.std.proofs.Common.{◌≡◌, ℕ, zero, suc, ◌+◌, ◌-◌, ◌/◌, ◌%◌, ◌<◌, ◌≤◌, true, false, nat_eq, nat_le, List, [], ◌∷◌, ◌++◌, length, take, drop, get_or, refl, sym, ap, ◌∙◌, arith, Some, None, All, inl, inr}
+use Rattle.std.proofs.Common.{◌≡◌, ℕ, zero, suc, ◌+◌, ◌/◌, ◌%◌, ◌<◌, ◌≤◌, true, false, nat_eq, nat_le, List, [], ◌∷◌, ◌++◌, length, drop, refl, sym, ap, ◌∙◌, arith, Some, None, All, inl, inr}
 use Rattle.std.proofs.lemmas.Bool.{cases_Bool}
 use Rattle.std.proofs.lemmas.Bool.Decides.{nat_tests}
-use Rattle.std.proofs.lemmas.List.{take_all, length-drop, length-append}
+use Rattle.std.proofs.lemmas.List.{length-append}
 use Rattle.std.proofs.lemmas.List.Elements.{All-nil, All-cons, All-append}
 use Rattle.std.specs.Char.{digit_value}
 use Rattle.std.specs.Prelude.{option_and_then}
@@ -10,50 +10,28 @@ use Rattle.p11_lines.specs.Escapes.{is_plain, escaped_byte, escaped}
 use Rattle.p11_lines.specs.Grammar.{is_blank, escape_from, bytes_past, bytes_from}
 use Rattle.p11_lines.proofs.Numbers.{Writes, number_from-Writes}
 
--- what `text[0]` and `&text[1..]` are
-pub first_and_rest : (text : List ℕ) (d : ℕ) → 0 < length text → text ≡ get_or text 0 d ∷ take (length text - 1) (drop 1 text)
-first_and_rest [] d some = absurd (omega (arith, some))
-first_and_rest (byte ∷ rest) d some = ap (λ (t : List ℕ). byte ∷ t) (sym (take_all (length (byte ∷ rest) - 1) rest (omega arith)))
-
-pub bytes_past_all : (n : ℕ) (text : List ℕ) → bytes_past n text ≡ bytes_past 0 (drop n text)
+bytes_past_all : (n : ℕ) (text : List ℕ) → bytes_past n text ≡ bytes_past 0 (drop n text)
 unfolding bytes_past
 bytes_past_all zero text = refl
 bytes_past_all (suc n) [] = refl
 bytes_past_all (suc n) (byte ∷ rest) = bytes_past_all n rest
 
-pub bytes_from-plain : (byte : ℕ) (rest : List ℕ) → is_plain byte ≡ true → bytes_from (byte ∷ rest) ≡ option_and_then (λ bytes. Some (byte ∷ bytes)) (bytes_from rest)
-unfolding bytes_past
-bytes_from-plain byte rest plain = rw plain refl
-
-pub bytes_from-other : (byte : ℕ) (rest : List ℕ) → is_plain byte ≡ false → nat_eq byte 92 ≡ false → bytes_from (byte ∷ rest) ≡ None
-unfolding bytes_past
-bytes_from-other byte rest plain other = rw (plain, other) refl
-
-pub bytes_from-no_escape : (rest : List ℕ) → escape_from rest ≡ None → bytes_from (92 ∷ rest) ≡ None
-unfolding bytes_past
-bytes_from-no_escape rest none = rw none refl
-
-pub bytes_from-escape : (escape : ℕ) (rest : List ℕ) → escape_from rest ≡ Some escape → bytes_from (92 ∷ rest) ≡ option_and_then (λ bytes. Some (escape ∷ bytes)) (bytes_from (drop 3 rest))
-unfolding bytes_past
-bytes_from-escape escape rest some = rw (some, bytes_past_all 3 rest) refl
-
--- the same of a text that begins so
+-- the bytes of a text, by what its first byte is
 pub at_plain : (text : List ℕ) (byte : ℕ) (rest : List ℕ) → text ≡ byte ∷ rest → true ≡ is_plain byte → bytes_from text ≡ option_and_then (λ bytes. Some (byte ∷ bytes)) (bytes_from rest)
-at_plain text byte rest text_is plain = ap (λ (t : List ℕ). bytes_from t) text_is ∙ bytes_from-plain byte rest (sym plain)
+unfolding bytes_past
+at_plain text byte rest text_is plain = rw (text_is, ← plain) refl
 
 pub at_other : (text : List ℕ) (byte : ℕ) (rest : List ℕ) → text ≡ byte ∷ rest → false ≡ is_plain byte → nat_eq byte 92 ≡ false → bytes_from text ≡ None
-at_other text byte rest text_is plain other = ap (λ (t : List ℕ). bytes_from t) text_is ∙ bytes_from-other byte rest (sym plain) other
-
-backslash_first : (text : List ℕ) (byte : ℕ) (rest : List ℕ) → text ≡ byte ∷ rest → byte ≡ 92 → text ≡ 92 ∷ rest
-backslash_first text byte rest text_is backslash = text_is ∙ ap (λ (b : ℕ). b ∷ rest) backslash
+unfolding bytes_past
+at_other text byte rest text_is plain other = rw (text_is, ← plain, other) refl
 
 pub at_no_escape : (text : List ℕ) (byte : ℕ) (rest : List ℕ) → text ≡ byte ∷ rest → byte ≡ 92 → None ≡ escape_from rest → bytes_from text ≡ None
-at_no_escape text byte rest text_is backslash none = ap (λ (t : List ℕ). bytes_from t) (backslash_first text byte rest text_is backslash) ∙ bytes_from-no_escape rest (sym none)
+unfolding bytes_past
+at_no_escape text byte rest text_is backslash none = rw (text_is, backslash, ← none) refl
 
-pub at_escape : (text : List ℕ) (byte : ℕ) (rest : List ℕ) (escape : ℕ) → text ≡ byte ∷ rest → byte ≡ 92 → Some escape ≡ escape_from rest → bytes_from text ≡ option_and_then (λ bytes. Some (escape ∷ bytes)) (bytes_from (take (length rest - 3) (drop 3 rest)))
-at_escape text byte rest escape text_is backslash some =
-    let whole : take (length rest - 3) (drop 3 rest) ≡ drop 3 rest = take_all (length rest - 3) (drop 3 rest) (omega (arith, length-drop 3 rest)) in
-    rw whole (ap (λ (t : List ℕ). bytes_from t) (backslash_first text byte rest text_is backslash) ∙ bytes_from-escape escape rest (sym some))
+pub at_escape : (text : List ℕ) (byte : ℕ) (rest after : List ℕ) (escape : ℕ) → text ≡ byte ∷ rest → byte ≡ 92 → Some escape ≡ escape_from rest → after ≡ drop 3 rest → bytes_from text ≡ option_and_then (λ bytes. Some (escape ∷ bytes)) (bytes_from after)
+unfolding bytes_past
+at_escape text byte rest after escape text_is backslash some after_is = rw (text_is, backslash, ← some, after_is, bytes_past_all 3 rest) refl
 
 -- nothing is left
 pub bytes_from-end : (text : List ℕ) → length text ≡ 0 → bytes_from text ≡ Some []
@@ -88,8 +66,8 @@ bytes_from-escaped_byte : (byte : ℕ) (more : List ℕ) → byte ≤ 255 → by
 unfolding escaped_byte
 bytes_from-escaped_byte byte more small =
     elim (cases_Bool (is_plain byte)) [
-      | inl plain ↦ rw plain (bytes_from-plain byte more plain)
-      | inr not_plain ↦ rw not_plain (bytes_from-escape byte ((48 + byte / 64) ∷ (48 + byte / 8 % 8) ∷ (48 + byte % 8) ∷ more) (escape_from-escape byte more small))
+      | inl plain ↦ rw plain (at_plain (byte ∷ more) byte more refl (sym plain))
+      | inr not_plain ↦ rw not_plain (at_escape _ 92 ((48 + byte / 64) ∷ (48 + byte / 8 % 8) ∷ (48 + byte % 8) ∷ more) more byte refl refl (sym (escape_from-escape byte more small)) refl)
     ]
 
 pub bytes_from-escaped : (bytes : List ℕ) → All (λ byte. byte ≤ 255) bytes → bytes_from (escaped bytes) ≡ Some bytes

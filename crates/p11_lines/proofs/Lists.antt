@@ -17,7 +17,7 @@ found_before_more found word (Some rest) = ap Some (append_assoc found (word ∷
 pub found_before_all : (found : List ℕ) → found_before found (Some []) ≡ Some found
 found_before_all found = ap Some (append-nil found)
 
--- words behind a word
+-- words after a word
 pub with_spaces_octals : (word : List ℕ) (words : List ℕ) → with_spaces (word ∷ map octal words) ≡ word ++ flat_map (λ more. 32 ∷ octal more) words
 with_spaces_octals word [] = sym (append-nil word)
 with_spaces_octals word (next ∷ words) = ap (λ (text : List ℕ). word ++ 32 ∷ text) (with_spaces_octals (octal next) words)

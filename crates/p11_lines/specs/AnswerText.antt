@@ -94,7 +94,7 @@ line_words_text d =
     codes "DL11 " ++ six_octals d.receiver_status ++ codes " " ++ six_octals d.receiver_buffer
     ++ codes " " ++ six_octals d.transmitter_status
 
--- ` keys d rx d tx d` behind it: the keys that wait, and both due turns
+-- ` keys d rx d tx d` after it: the keys that wait, and both due turns
 unfoldable pub line_waits_text : BusDevices → List ℕ
 line_waits_text d =
     codes " keys " ++ decimal d.keys ++ codes " rx " ++ due_text d.receiver_due

@@ -72,7 +72,7 @@ unfoldable pub escape_from : List ℕ → Option ℕ
 escape_from digits = if nat_le 3 (length digits) then number_from 8 3 0o377 (take 3 digits) else None
 
 -- The bytes that a text writes, past so many bytes of it. A byte that stands for itself writes itself, and a backslash
--- writes the byte of the three digits behind it, which it takes with it.
+-- writes the byte of the three digits after it, which it takes with it.
 unfoldable pub bytes_past : ℕ → List ℕ → Option (List ℕ)
 bytes_past more [] = Some []
 bytes_past (suc more) (byte ∷ rest) = bytes_past more rest
@@ -115,7 +115,7 @@ access_from word =
 
 -- ---- lines
 
--- how the words behind a command's name are read: as a line, if they are one
+-- how the words after a command's name are read: as a line, if they are one
 abbrev pub Reading : Type 0 → Type 0
 Reading A = List (List ℕ) → Option (Line A)
 
@@ -124,7 +124,7 @@ unfoldable pub no_word : {A : Type 0} → Line A → Reading A
 no_word line [] = Some line
 no_word line (more ∷ rest) = None
 
--- a first word, which `read` reads, and behind it what `others` reads; the line is made of both
+-- a first word, which `read` reads, and after it what `others` reads; the line is made of both
 unfoldable pub word_and : {A B C : Type 0} → (List ℕ → Option B) → (C → Reading A) → (B → C) → Reading A
 word_and read others line [] = None
 word_and read others line (word ∷ rest) = do
@@ -150,30 +150,30 @@ some_words line (word ∷ rest) = do
   words ← all_words_from (word ∷ rest)
   Some (line words)
 
--- each command's name, and how the words behind it are read
+-- each command's name, and how the words after it are read
 abbrev pub commands : {A : Type 0} → List (List ℕ × Reading A)
 commands =
     (codes "mount", word_and word_from (two_words name_from access_from) Mount)
-    ∷ (codes "save", two_words word_from name_from Save)
-    ∷ (codes "load", one_word name_from Load)
-    ∷ (codes "deposit", word_and address_from some_words Deposit)
-    ∷ (codes "key", one_word bytes_from Key)
     ∷ (codes "unmount", one_word word_from Unmount)
+    ∷ (codes "save", two_words word_from name_from Save)
     ∷ (codes "changed", one_word word_from Changed)
+    ∷ (codes "load", one_word name_from Load)
     ∷ (codes "examine", word_and address_from count_or_none Examine)
+    ∷ (codes "deposit", word_and address_from some_words Deposit)
+    ∷ (codes "start", one_word word_from Start)
+    ∷ (codes "key", one_word bytes_from Key)
     ∷ (codes "tick", no_word Tick)
     ∷ (codes "clock", one_word period_from Clock)
-    ∷ (codes "device", no_word Device)
-    ∷ (codes "start", one_word word_from Start)
     ∷ (codes "switches", one_word word_from Switches)
     ∷ (codes "set", two_words word_from word_from Set)
     ∷ (codes "step", one_word count_from Step)
     ∷ (codes "continue", one_word count_from Continue)
     ∷ (codes "regs", no_word Regs)
+    ∷ (codes "device", no_word Device)
     ∷ (codes "flush", no_word Flush)
     ∷ []
 
--- the line that the words behind a name are, by the row of that name
+-- the line that the words after a name are, by the row of that name
 unfoldable pub line_by : {A : Type 0} → List (List ℕ × Reading A) → List ℕ → Reading A
 line_by [] name args = None
 line_by (row ∷ rows) name args = if bytes_eq name row.0 then row.1 args else line_by rows name args

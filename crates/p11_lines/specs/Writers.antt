@@ -9,7 +9,7 @@ pub record WriterState : Type 0 where
   pub bytes : Option (List ℕ)
   pub writes : Option (List Bool)
 
--- where calls are known, these are made behind them
+-- where calls are known, these are made after them
 abbrev pub with_calls : {C : Type 0} → Option (List C) → List C → Option (List C)
 with_calls known calls = option_map (λ earlier. earlier ++ calls) known
 

@@ -1,5 +1,5 @@
 // The texts of answers, written in pieces from fixed tables.
-ghost use Rattle.std.specs.Prelude.{◌≡◌, ◌+◌, ◌++◌, ◌≤◌, [], OnOk, OnErr, decimal};
+ghost use Rattle.std.specs.Prelude.{◌≡◌, ◌+◌, ◌++◌, ◌≤◌, [], OnOk, OnErr, codes, decimal};
 ghost use Rattle.std.specs.List.{flat_map};
 ghost use Rattle.p11_lines.specs.AnswerText.{text_of, six_octals, exam_text, exam_texts};
 ghost use Rattle.p11_lines.specs.AnswerText.{mark_text, spaced_text, general_text, pointers_text, turn_text};
@@ -153,6 +153,14 @@ fn mark_name(mark: Mark) -> &'static str
     }
 }
 
+/// Puts a space and six octal digits.
+fn put_octal<W: Sink>(writer: &mut W, table: &mut Table, word: u16) -> Result<(), Broken>
+    ensures { Puts (W.state writer.old) table.old.items (codes " " ++ six_octals word)
+        (W.state writer.new) table.new.items result }
+{
+    put_all(writer, table, &[b" ", &octal(u32::from(word))])
+}
+
 /// Puts a space and six octal digits for each word.
 pub(crate) fn put_spaced<W: Sink>(
     writer: &mut W,
@@ -163,7 +171,7 @@ pub(crate) fn put_spaced<W: Sink>(
         (W.state writer.new) table.new.items result }
 {
     for word in words {
-        put_all(writer, table, &[b" ", &octal(u32::from(*word))])?;
+        put_octal(writer, table, *word)?;
     }
     Ok(())
 }

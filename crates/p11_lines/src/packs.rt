@@ -11,7 +11,7 @@ use crate::text::access_name;
 use itoa::Buffer;
 use p11_unibus::{DiskRegisters, DriveShown};
 
-/// Puts a number behind its name.
+/// Puts a number after its name.
 fn put_numbered<W: Sink>(
     writer: &mut W,
     table: &mut Table,

@@ -287,13 +287,16 @@ fn deposit<A: Allocator>(alloc: A, args: &[u8]) -> Result<Line<A>, Fault>
     })
 }
 
-/// The line that a command about the processor is.
+/// The line that a command is which takes no memory, from `tick` on.
 #[tactic(auto, unfolding(crate::specs::Grammar::line_by))]
-fn processor_line<A: Allocator>(name: &[u8], args: &[u8]) -> Option<Line<A>>
-    ensures { result ≡ line_by (drop 11 commands) name.now (words_of args.now) }
+fn fixed_line<A: Allocator>(name: &[u8], args: &[u8]) -> Option<Line<A>>
+    ensures { result ≡ line_by (drop 9 commands) name.now (words_of args.now) }
 {
-    if name == b"start".as_slice() {
-        return start(args);
+    if name == b"tick".as_slice() {
+        return no_word(Line::Tick, args);
+    }
+    if name == b"clock".as_slice() {
+        return clock(args);
     }
     if name == b"switches".as_slice() {
         return switches(args);
@@ -310,36 +313,33 @@ fn processor_line<A: Allocator>(name: &[u8], args: &[u8]) -> Option<Line<A>>
     if name == b"regs".as_slice() {
         return no_word(Line::Regs, args);
     }
+    if name == b"device".as_slice() {
+        return no_word(Line::Device, args);
+    }
     if name == b"flush".as_slice() {
         return no_word(Line::Flush, args);
     }
     None
 }
 
-/// The line that a command is which takes no memory: about the bus, or else about the processor.
+/// The line that a command is which is about no drive and no tape.
 #[tactic(auto, unfolding(crate::specs::Grammar::line_by))]
-fn fixed_line<A: Allocator>(name: &[u8], args: &[u8]) -> Option<Line<A>>
-    ensures { result ≡ line_by (drop 5 commands) name.now (words_of args.now) }
+fn machine_line<A: Allocator>(alloc: A, name: &[u8], args: &[u8]) -> Result<Line<A>, Fault>
+    ensures { Reads result (line_by (drop 5 commands) name.now (words_of args.now)) }
 {
-    if name == b"unmount".as_slice() {
-        return unmount(args);
-    }
-    if name == b"changed".as_slice() {
-        return changed(args);
-    }
     if name == b"examine".as_slice() {
-        return examine(args);
+        return examine(args).ok_or(Fault::BadLine);
     }
-    if name == b"tick".as_slice() {
-        return no_word(Line::Tick, args);
+    if name == b"deposit".as_slice() {
+        return deposit(alloc, args);
     }
-    if name == b"clock".as_slice() {
-        return clock(args);
+    if name == b"start".as_slice() {
+        return start(args).ok_or(Fault::BadLine);
     }
-    if name == b"device".as_slice() {
-        return no_word(Line::Device, args);
+    if name == b"key".as_slice() {
+        return key(alloc, args);
     }
-    processor_line(name, args)
+    fixed_line(name, args).ok_or(Fault::BadLine)
 }
 
 /// Reads a line, which has no end of line with it.
@@ -359,17 +359,17 @@ pub fn parse_line<A: Allocator>(alloc: A, line: &[u8]) -> Result<Line<A>, Fault>
     if name == b"mount".as_slice() {
         return mount(alloc, args);
     }
+    if name == b"unmount".as_slice() {
+        return unmount(args).ok_or(Fault::BadLine);
+    }
     if name == b"save".as_slice() {
         return save(alloc, args);
+    }
+    if name == b"changed".as_slice() {
+        return changed(args).ok_or(Fault::BadLine);
     }
     if name == b"load".as_slice() {
         return load(alloc, args);
     }
-    if name == b"deposit".as_slice() {
-        return deposit(alloc, args);
-    }
-    if name == b"key".as_slice() {
-        return key(alloc, args);
-    }
-    fixed_line(name, args).ok_or(Fault::BadLine)
+    machine_line(alloc, name, args)
 }

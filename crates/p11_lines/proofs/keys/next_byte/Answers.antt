@@ -1,6 +1,7 @@
 use Rattle.std.proofs.Common.{◌≡◌, nat_eq, false, arith}
 use Rattle.std.proofs.lemmas.Bool.Decides.{nat_tests}
 use Rattle.p11_lines.proofs.Escapes.{at_plain, at_other, at_no_escape, at_escape}
+use Rattle.p11_lines.proofs.Parts.{rest_from}
 use Rattle.p11_lines.proofs.keys.next_byte.Goals as goal
 
 pub returns-then-is_plain-clause-bytes : goal.returns-then-is_plain-clause-bytes
@@ -19,4 +20,4 @@ returns-in_err-escape-clause-bytes c =
 pub returns-clause-bytes : goal.returns-clause-bytes
 returns-clause-bytes c =
     let backslash : c.first_byte-byte.result.0 ≡ 92 = grind (arith, nat_tests) in
-    at_escape c.args.text.now _ _ c.in_ok-escape.escape c.first_byte-byte.ensures backslash c.in_ok-escape.ensures.value
+    at_escape c.args.text.now _ _ _ c.in_ok-escape.escape c.first_byte-byte.ensures backslash c.in_ok-escape.ensures.value (rest_from 3 c.first_byte-byte.result.1.now)

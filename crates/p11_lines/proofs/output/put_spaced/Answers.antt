@@ -1,37 +1,18 @@
-use Rattle.std.proofs.Common.{◌≡◌, ℕ, ◌++◌, List, [], ◌∷◌, drop, get_or, subst, ap, ◌∙◌}
-use Rattle.std.proofs.lemmas.List.{append-nil}
-use Rattle.p11_lines.specs.AnswerText.{six_octals, spaced_text}
-use Rattle.p11_lines.specs.Calls.Writing.{Wrote}
-use Rattle.p11_lines.specs.Written.{AppendsFront}
-use Rattle.p11_lines.proofs.Pieces.{Wrote-none, Wrote-piece, Wrote-end, AppendsFront-piece, puts_broken, puts_done, flat_map_drop, flat_map_past}
+use Rattle.std.proofs.Common.{ℕ, ◌∷◌}
+use Rattle.p11_lines.specs.AnswerText.{six_octals}
+use Rattle.p11_lines.proofs.Pieces.{Wrote-none, piece_put, piece_broken, pieces_put, flat_map_drop, flat_map_past}
 use Rattle.p11_lines.proofs.output.put_spaced.Goals as goal
 
 pub loop-word-init : goal.loop-word-init
-loop-word-init g c = Wrote-none (g.W.Sink.state c.args.writer.now) (c.args.table.now.items ++ spaced_text c.args.words.now)
+loop-word-init g c = Wrote-none _ _
 
-pub returns-in_err-put_all : goal.returns-in_err-put_all
-returns-in_err-put_all g c =
-    let word = get_or c.args.words.now c.loop-word.word-index 0 in
-    let kept = c.loop-word.table.items in
-    let digits : c.octal.result ≡ six_octals word = c.octal.ensures ∙ ap six_octals c.from.ensures in
-    let piece : c.octal.result ++ [] ≡ six_octals word = append-nil c.octal.result ∙ digits in
-    puts_broken _ _ _ _ _ _ c.from_residual.ensures.0 (AppendsFront-piece (g.W.Sink.state c.args.writer.now) (g.W.Sink.state c.loop-word.writer) (g.W.Sink.state c.put_all.new.writer)
-    (c.args.table.now.items ++ spaced_text c.args.words.now) kept (spaced_text (drop c.loop-word.word-index c.args.words.now)) (32 ∷ six_octals word) _
-    c.loop-word.invariant (flat_map_drop (λ word. 32 ∷ six_octals word) c.args.words.now c.loop-word.word-index 0 c.loop-word-test.true)
-    (subst (λ (t : List ℕ). AppendsFront (g.W.Sink.state c.loop-word.writer) (g.W.Sink.state c.put_all.new.writer) (kept ++ 32 ∷ t)) piece c.in_err-put_all.ensures.broken))
+pub returns-in_err-put_octal : goal.returns-in_err-put_octal
+returns-in_err-put_octal g c =
+    piece_broken _ c.from_residual.ensures.0 c.loop-word.invariant (flat_map_drop (λ (word : ℕ). 32 ∷ six_octals word) c.args.words.now c.loop-word.word-index 0 c.loop-word-test.true) c.in_err-put_octal.ensures
 
 pub loop-word-preserved : goal.loop-word-preserved
 loop-word-preserved g c =
-    let word = get_or c.args.words.now c.loop-word.word-index 0 in
-    let kept = c.loop-word.table.items in
-    let digits : c.octal.result ≡ six_octals word = c.octal.ensures ∙ ap six_octals c.from.ensures in
-    let piece : c.octal.result ++ [] ≡ six_octals word = append-nil c.octal.result ∙ digits in
-    Wrote-piece (g.W.Sink.state c.args.writer.now) (g.W.Sink.state c.loop-word.writer) (g.W.Sink.state c.put_all.new.writer)
-    (c.args.table.now.items ++ spaced_text c.args.words.now) kept (spaced_text (drop c.loop-word.word-index c.args.words.now)) (32 ∷ six_octals word) _ _
-    c.loop-word.invariant (flat_map_drop (λ word. 32 ∷ six_octals word) c.args.words.now c.loop-word.word-index 0 c.loop-word-test.true)
-    (subst (λ (t : List ℕ). Wrote (g.W.Sink.state c.loop-word.writer) (g.W.Sink.state c.put_all.new.writer) (kept ++ 32 ∷ t) c.put_all.new.table.items) piece c.in_ok-put_all.ensures.done)
+    piece_put _ c.loop-word.invariant (flat_map_drop (λ (word : ℕ). 32 ∷ six_octals word) c.args.words.now c.loop-word.word-index 0 c.loop-word-test.true) c.in_ok-put_octal.ensures
 
 pub returns : goal.returns
-returns g c =
-    puts_done _ _ _ _ _ _ (Wrote-end (g.W.Sink.state c.args.writer.now) (g.W.Sink.state c.loop-word.writer) (c.args.table.now.items ++ spaced_text c.args.words.now) c.loop-word.table.items _
-    c.loop-word.invariant (flat_map_past (λ word. 32 ∷ six_octals word) c.args.words.now c.loop-word.word-index c.loop-word-test.false))
+returns g c = pieces_put c.loop-word.invariant (flat_map_past (λ (word : ℕ). 32 ∷ six_octals word) _ _ c.loop-word-test.false)

@@ -6,5 +6,5 @@ use Rattle.p11_lines.proofs.output.write_out.Goals as goal
 
 pub loop-rest-preserved : goal.loop-rest-preserved
 loop-rest-preserved g c =
-    Wrote-slice (g.W.Sink.state c.args.writer.now) (g.W.Sink.state c.loop-rest.writer) (g.W.Sink.state c.write.new.self) c.args.piece.now c.loop-rest.rest.now _ _ c.loop-rest.invariant
+    Wrote-slice _ _ c.loop-rest.invariant
     (Writes-one _ _ _ _ (lt-ltb 0 c.in-Ok.count (omega (arith, c.in-Ok.count-test.1))) c.in-Ok.ensures.bytes c.in-Ok.ensures.calls) (omega (arith, c.in-Ok.ensures.bound))
