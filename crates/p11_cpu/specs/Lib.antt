@@ -17,5 +17,6 @@ pub mod Turns
 pub mod Operator
 pub mod OperatorDevices
 pub mod Confinement
+pub mod Calls
 pub mod Kept
 pub mod Laws

@@ -59,6 +59,7 @@ impl<A: Allocator> Hardware<A> {
 
     /// MUL.
     #[tactic(auto, unfolding(crate::specs::Instructions::execute_of, crate::specs::Operands::value_of))]
+    #[inline(always)]
     pub fn mul(
         &mut self,
         turn: TurnNumber,
@@ -77,6 +78,7 @@ impl<A: Allocator> Hardware<A> {
 
     /// DIV.
     #[tactic(auto, unfolding(crate::specs::Instructions::execute_of, crate::specs::Operands::value_of))]
+    #[inline(always)]
     pub fn div(
         &mut self,
         turn: TurnNumber,
@@ -95,6 +97,7 @@ impl<A: Allocator> Hardware<A> {
 
     /// ASH.
     #[tactic(auto, unfolding(crate::specs::Instructions::execute_of, crate::specs::Operands::value_of))]
+    #[inline(always)]
     pub fn ash(
         &mut self,
         turn: TurnNumber,
@@ -113,6 +116,7 @@ impl<A: Allocator> Hardware<A> {
 
     /// ASHC.
     #[tactic(auto, unfolding(crate::specs::Instructions::execute_of, crate::specs::Operands::value_of))]
+    #[inline(always)]
     pub fn ashc(
         &mut self,
         turn: TurnNumber,

@@ -93,6 +93,7 @@ impl<A: Allocator> Hardware<A> {
 
     /// JMP.
     #[tactic(auto, unfolding(crate::specs::Instructions::execute_of))]
+    #[inline(always)]
     pub fn jmp(&mut self, turn: TurnNumber, operand: Operand) -> Result<(), Trap>
         ensures { execute_of (Op.Jmp operand) turn self.old ≡ (self.new, result) }
     {
@@ -103,6 +104,7 @@ impl<A: Allocator> Hardware<A> {
 
     /// JSR.
     #[tactic(auto, unfolding(crate::specs::Instructions::execute_of))]
+    #[inline(always)]
     pub fn jsr(
         &mut self,
         turn: TurnNumber,
@@ -121,6 +123,7 @@ impl<A: Allocator> Hardware<A> {
 
     /// RTS.
     #[tactic(auto, unfolding(crate::specs::Instructions::execute_of))]
+    #[inline(always)]
     pub fn rts(&mut self, turn: TurnNumber, register: Register) -> Result<(), Trap>
         ensures { execute_of (Op.Rts register) turn self.old ≡ (self.new, result) }
     {

@@ -38,6 +38,16 @@ impl TurnNumber {
         }
     }
 
+    /// The number of the turn that many turns later.
+    pub fn plus(self, turns: u32) -> Self
+        requires { self + turns ≤ 2 ^ 62 }
+        ensures { result ≡ self + turns }
+    {
+        TurnNumber {
+            number: self.number + u64::from(turns),
+        }
+    }
+
     /// The number itself.
     pub fn number(self) -> u64
         ensures value { result ≡ self }

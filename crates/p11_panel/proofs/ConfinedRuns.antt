@@ -18,11 +18,10 @@ use Rattle.p11_cpu.specs.Laws.Confined.{ChangesWithin, ConfinesStill, UserTurnIs
 use Rattle.p11_cpu.specs.Confinement.{IsConfining, acted_next, after_devices, begins_service}
 use Rattle.p11_cpu.specs.OperatorDevices.{take_typed_of}
 use Rattle.p11_cpu.specs.State.{State}
-use Rattle.p11_cpu.specs.Turns.{devices_acted, marks_cleared, turn_of}
+use Rattle.p11_cpu.specs.Turns.{after_turns, devices_acted, marks_cleared, turn_of}
 use Rattle.p11_panel.specs.declared.command.Command.{Command}
 use Rattle.p11_panel.specs.Commands.{Acts}
 use Rattle.p11_panel.specs.Confinement.{ConfinesRun, PlaysConfined, ServesNone, StaysConfined, last_stored, stored_or, stores_at}
-use Rattle.p11_panel.specs.Runs.{after_turns}
 
 -- the laws of a turn and of the acts of the devices on which this rests
 pub record Laws : Type 0 where

@@ -1,15 +1,17 @@
 -- One more turn of a run.
-use Rattle.std.proofs.Common.{◌≡◌, ℕ, ◌+◌, ◌<◌, Bool, true, false, ◌==◌, Option, Some, None, MatchOption, Result, Ok, Err, refl, ap, subst, sym, ◌∙◌, arith, inl, inr, add-one}
+use Rattle.std.proofs.Common.{◌≡◌, ℕ, zero, suc, ◌+◌, ◌-◌, ◌<◌, ◌≤◌, Bool, true, false, cond, ◌==◌, Option, Some, None, MatchOption, Result, Ok, Err, refl, ap, subst, sym, ◌∙◌, arith, inl, inr, add-one}
 use Rattle.std.proofs.lemmas.Bool.{cases_lt}
 use Rattle.std.specs.Result.{IsOk, is_err}
 use Rattle.p11_lines.specs.declared.answer.StopReason.{StopReason}
 use Rattle.p11_lines.specs.declared.answer.StopReason.TheVariants as reasons
 use Rattle.p11_cpu.specs.declared.turn.Turn.{Turn}
 use Rattle.p11_cpu.specs.declared.turn.Turn.TheVariants.{Ran, Halted}
+use Rattle.p11_cpu.specs.Calls.QuietTurns.{IsBusy, TakeThere}
+use Rattle.p11_cpu.specs.OperatorDevices.{is_idle}
 use Rattle.p11_cpu.specs.State.{State}
 use Rattle.p11_cpu.specs.Prepared.{needs_memory}
-use Rattle.p11_cpu.specs.Turns.{turn_of}
-use Rattle.p11_panel.specs.Runs.{after_turns, is_halt, last_halted, stop_of, IsMemory, IsRun}
+use Rattle.p11_cpu.specs.Turns.{after_turns, turn_of}
+use Rattle.p11_panel.specs.Runs.{stops_idling, is_halt, last_halted, stop_of, IsMemory, IsRun}
 
 -- k turns of a run of n are made, none of them halted, and no fewer stopped it
 pub record Goes (idles : State → Bool) (n : ℕ) (s : State) (k : ℕ) (s' : State) : Type 0 where
@@ -126,3 +128,91 @@ pub needs_by : {T E : Type 0} (b : Bool) (r : Result T E) → (b ≡ false → I
 needs_by true r needless failed = refl
 needs_by false (Ok v) needless failed = cc
 needs_by {T} false (Err e) needless failed = absurd (err_not_ok T e (needless refl))
+
+-- MANY TURNS AT ONCE
+
+turns_after : (j k : ℕ) (s : State) → after_turns j (after_turns k s) ≡ after_turns (k + j) s
+unfolding after_turns
+turns_after zero k s =
+    let none : k ≡ k + 0 = omega arith in
+    ap (λ n. after_turns n s) none
+turns_after (suc j) k s =
+    let number : suc (k + j) ≡ k + suc j = omega arith in
+    ap (λ x. (turn_of x).0) (turns_after j k s) ∙ ap (λ n. after_turns n s) number
+
+halt_is : (b : Bool) → is_halt (cond b Halted Ran) ≡ b
+halt_is true = refl
+halt_is false = refl
+
+turn_halts : (s : State) → is_halt (turn_of s).1 ≡ (turn_of s).0.processor.halted
+unfolding turn_of
+turn_halts s = halt_is _
+
+-- a run whose machine hasn't halted isn't over for that
+not_halted : (k : ℕ) (s : State) → (after_turns k s).processor.halted ≡ false → last_halted k s ≡ false
+unfolding after_turns last_halted
+not_halted zero s h = refl
+not_halted (suc k) s h = turn_halts (after_turns k s) ∙ h
+
+has_halted : (k : ℕ) (s : State) → 0 < k → (after_turns k s).processor.halted ≡ true → last_halted k s ≡ true
+unfolding after_turns last_halted
+has_halted zero s below h = absurd (omega (arith, below))
+has_halted (suc k) s below h = turn_halts (after_turns k s) ∙ h
+
+-- a processor that doesn't wait doesn't idle
+works_on : (asked : Bool) (s : State) → IsBusy s.processor → stops_idling asked s ≡ false
+unfolding is_idle
+works_on true s busy = rw busy.working refl
+works_on false s busy = refl
+
+busy_goes_on : (asked : Bool) (n k : ℕ) (s : State) → k < n → IsBusy (after_turns k s).processor → stop_of (stops_idling asked) n k s ≡ None
+unfolding stop_of
+busy_goes_on asked n k s h busy =
+    let other : (k == n) ≡ false = grind (arith, h) in
+    rw (not_halted k s busy.running, other, works_on asked (after_turns k s) busy) refl
+
+-- the machine after so many turns more, and before each of them
+taken_there : (asked : Bool) (n made k : ℕ) (s s' z : State) → Goes (stops_idling asked) n s made s' → TakeThere k s' z → z ≡ after_turns (made + k) s
+taken_there asked n made k s s' z goes there = there.state ∙ ap (after_turns k) goes.state ∙ turns_after k made s
+
+busy_at : (asked : Bool) (n made k : ℕ) (s s' z : State) → Goes (stops_idling asked) n s made s' → TakeThere k s' z → (i : ℕ) → i < k → IsBusy (after_turns (made + i) s).processor
+busy_at asked n made k s s' z goes there i below =
+    subst (λ (x : State). IsBusy x.processor) (ap (after_turns i) goes.state ∙ turns_after i made s) (there.busy i below)
+
+none_stops : (asked : Bool) (n made k : ℕ) (s s' z : State) → made + k ≤ n → Goes (stops_idling asked) n s made s' → TakeThere k s' z → (j : ℕ) → j < made + k → stop_of (stops_idling asked) n j s ≡ None
+none_stops asked n made k s s' z h goes there j below =
+    elim (cases_lt j made) [
+      | inl earlier ↦ goes.goes_on j earlier
+      | inr later ↦
+          let number : made + (j - made) ≡ j = omega (arith, later) in
+          let within : j - made < k = omega (arith, later, below) in
+          busy_goes_on asked n j s (omega (arith, h, below))
+          (subst (λ i. IsBusy (after_turns i s).processor) number (busy_at asked n made k s s' z goes there (j - made) within))
+    ]
+
+-- so many turns more, after which the machine hasn't halted
+pub many_more : (asked : Bool) (n made k : ℕ) (s s' z : State) → made + k ≤ n → Goes (stops_idling asked) n s made s' → TakeThere k s' z → z.processor.halted ≡ false → Goes (stops_idling asked) n s (made + k) z
+many_more asked n made k s s' z h goes there running =
+    let state = taken_there asked n made k s s' z goes there in
+    record {
+      state = state;
+      ran = not_halted (made + k) s (subst (λ (x : State). x.processor.halted ≡ false) state running);
+      goes_on = none_stops asked n made k s s' z h goes there;
+    }
+
+-- so many turns more, the last of which halts
+pub many_that_halt : (asked : Bool) (n made k : ℕ) (s s' z : State) → 0 < k → made + k ≤ n → Goes (stops_idling asked) n s made s' → TakeThere k s' z → z.processor.halted ≡ true → IsRun (stops_idling asked) n s (made + k) reasons.Halt z
+many_that_halt asked n made k s s' z some h goes there halted =
+    let state = taken_there asked n made k s s' z goes there in
+    let last : last_halted (made + k) s ≡ true = has_halted (made + k) s (omega (arith, some)) (subst (λ (x : State). x.processor.halted ≡ true) state halted) in
+    record {
+      state = state;
+      stops = stops_by (stops_idling asked) n (made + k) s z reasons.Halt (stop_halted (stops_idling asked) n (made + k) s last);
+      goes_on = none_stops asked n made k s s' z h goes there;
+    }
+
+-- no turn was made
+pub none_more : (asked : Bool) (n made k : ℕ) (s s' z : State) → k ≡ 0 → Goes (stops_idling asked) n s made s' → TakeThere k s' z → Goes (stops_idling asked) n s made z
+unfolding after_turns
+none_more asked n made k s s' z e goes there =
+    goes_is (stops_idling asked) n made s s' z (there.state ∙ ap (λ i. after_turns i s') e) goes

@@ -11,7 +11,7 @@ use Rattle.p11_cpu.specs.State.{State}
 use Rattle.p11_panel.specs.declared.command.Command.{Command}
 use Rattle.p11_panel.specs.declared.command.Command.TheVariants as commands
 use Rattle.p11_panel.specs.Commands.{Acts}
-use Rattle.p11_panel.specs.Runs.{after_turns}
+use Rattle.p11_cpu.specs.Turns.{after_turns}
 
 -- in none of the next k turns does a service begin
 abbrev pub ServesNone : ℕ → State → Type 0

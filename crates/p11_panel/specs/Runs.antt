@@ -7,12 +7,7 @@ use Rattle.p11_cpu.specs.declared.turn.Turn.TheVariants.{Ran, Halted}
 use Rattle.p11_cpu.specs.State.{State}
 use Rattle.p11_cpu.specs.Prepared.{needs_memory}
 use Rattle.p11_cpu.specs.OperatorDevices.{is_idle}
-use Rattle.p11_cpu.specs.Turns.{turn_of}
-
--- the machine after so many turns
-unfoldable pub after_turns : ℕ → State → State
-after_turns zero s = s
-after_turns (suc k) s = (turn_of (after_turns k s)).0
+use Rattle.p11_cpu.specs.Turns.{after_turns, turn_of}
 
 abbrev pub is_halt : Turn → Bool
 is_halt Halted = true

@@ -2,8 +2,8 @@
 ghost use Rattle.std.specs.Prelude.{◌≡◌, ℕ, length};
 ghost use Rattle.p11_cpu.specs.Confinement.{IsConfining};
 ghost use Rattle.p11_cpu.specs.State.{State};
+ghost use Rattle.p11_cpu.specs.Turns.{after_turns};
 ghost use Rattle.p11_panel.specs.Confinement.{ServesNone, StaysConfined};
-ghost use Rattle.p11_panel.specs.Runs.{after_turns};
 
 use p11_cpu::a_user_turn_is_confined;
 use p11_unibus::the_acts_write_words_of_a_disk_read_alone;

@@ -25,12 +25,21 @@ pub(crate) fn run<A: Allocator>(
     requires { machine.old.visible.turns + turns ≤ 2 ^ 62 }
     ensures { IsRun (stops_idling until_idle) turns machine.old.visible result.0 result.1 machine.new.visible }
 {
-    for made in 0..turns {
+    let mut made = 0;
+    while made < turns {
+        let quiet = machine.quiet_turns(turns - made);
+        if quiet > 0 {
+            made += quiet;
+            if machine.is_halted() {
+                return (made, StopReason::Halt);
+            }
+            continue;
+        }
         if idles(machine, until_idle) {
             return (made, StopReason::Idle);
         }
         match machine.try_turn() {
-            Ok(Turn::Ran) => {}
+            Ok(Turn::Ran) => made += 1,
             Ok(Turn::Halted) => return (made + 1, StopReason::Halt),
             Err(_) => return (made, StopReason::Memory),
         }

@@ -1,37 +1,58 @@
-use Rattle.std.proofs.Common.{◌≡◌, false, true, arith, ap, sym, ◌∙◌}
+use Rattle.std.proofs.Common.{◌≡◌, ◌+◌, ◌≤◌, false, true, arith, ap, sym, ◌∙◌}
 use Rattle.std.specs.Result.{is_err}
 use Rattle.p11_panel.specs.Runs.{stops_idling}
-use Rattle.p11_panel.proofs.RunLemmas.{no_turn, one_more, halting_turn, all_made, no_memory, needs_by, idle_now}
+use Rattle.p11_panel.proofs.RunLemmas.{no_turn, none_more, many_more, many_that_halt, one_more, halting_turn, all_made, no_memory, needs_by, idle_now}
 use Rattle.p11_panel.proofs.run.run.Goals as goal
 
 pub loop-made-init : goal.loop-made-init
-loop-made-init g c = record { turns = omega arith; goes = no_turn _ _ _ }
+loop-made-init g c = record { turns = omega arith; within = omega arith; goes = no_turn _ _ _ }
+
+pub returns-then-is_halted : goal.returns-then-is_halted
+returns-then-is_halted g c =
+    many_that_halt c.args.until_idle _ _ _ _ _ _ c.if-quiet-gt0.true
+    (omega (arith, c.quiet_turns-quiet.ensures.bound, c.loop-made-test.true))
+    c.loop-made.invariant.goes c.quiet_turns-quiet.ensures.made (sym c.is_halted.ensures ∙ c.if-is_halted.true)
+
+pub loop-made-preserved-then-quiet-gt0 : goal.loop-made-preserved-then-quiet-gt0
+loop-made-preserved-then-quiet-gt0 g c =
+    let within : c.loop-made.made + c.quiet_turns-quiet.result ≤ c.args.turns = omega (arith, c.quiet_turns-quiet.ensures.bound, c.loop-made-test.true) in
+    record {
+      turns = omega (arith, c.quiet_turns-quiet.ensures.count, c.loop-made.invariant.turns);
+      within = within;
+      goes = many_more c.args.until_idle _ _ _ _ _ _ within
+          c.loop-made.invariant.goes c.quiet_turns-quiet.ensures.made (sym c.is_halted.ensures ∙ c.if-is_halted.false);
+    }
 
 pub returns-then-idles : goal.returns-then-idles
 returns-then-idles g c =
-    let idle : stops_idling c.args.until_idle c.loop-made.machine.visible ≡ true = sym c.idles.ensures ∙ c.if-idles.true in
-    idle_now (stops_idling c.args.until_idle) _ _ _ _ c.loop-made-test.true idle c.loop-made.invariant.goes
+    let goes = none_more c.args.until_idle _ _ _ _ _ _ (omega (arith, c.if-quiet-gt0.false)) c.loop-made.invariant.goes c.quiet_turns-quiet.ensures.made in
+    let idle : stops_idling c.args.until_idle c.quiet_turns-quiet.new.self.visible ≡ true = sym c.idles.ensures ∙ c.if-idles.true in
+    idle_now (stops_idling c.args.until_idle) _ _ _ _ c.loop-made-test.true idle goes
+
+pub loop-made-preserved : goal.loop-made-preserved
+loop-made-preserved g c =
+    let goes = none_more c.args.until_idle _ _ _ _ _ _ (omega (arith, c.if-quiet-gt0.false)) c.loop-made.invariant.goes c.quiet_turns-quiet.ensures.made in
+    let busy : stops_idling c.args.until_idle c.quiet_turns-quiet.new.self.visible ≡ false = sym c.idles.ensures ∙ c.if-idles.false in
+    record {
+      turns = omega (arith, c.in-Ok-Ran.ensures.count, c.quiet_turns-quiet.ensures.count, c.if-quiet-gt0.false, c.loop-made.invariant.turns);
+      within = omega (arith, c.loop-made-test.true);
+      goes = one_more (stops_idling c.args.until_idle) _ _ _ c.quiet_turns-quiet.new.self.visible _ c.loop-made-test.true busy goes
+          (rw c.in-Ok-Ran.field-0-is at c.in-Ok-Ran.ensures.ok);
+    }
 
 pub returns-in-Ok-Halted : goal.returns-in-Ok-Halted
 returns-in-Ok-Halted g c =
-    let busy : stops_idling c.args.until_idle c.loop-made.machine.visible ≡ false = sym c.idles.ensures ∙ c.if-idles.false in
-    halting_turn (stops_idling c.args.until_idle) _ _ _ c.loop-made.machine.visible _ c.loop-made-test.true busy c.loop-made.invariant.goes
+    let goes = none_more c.args.until_idle _ _ _ _ _ _ (omega (arith, c.if-quiet-gt0.false)) c.loop-made.invariant.goes c.quiet_turns-quiet.ensures.made in
+    let busy : stops_idling c.args.until_idle c.quiet_turns-quiet.new.self.visible ≡ false = sym c.idles.ensures ∙ c.if-idles.false in
+    halting_turn (stops_idling c.args.until_idle) _ _ _ c.quiet_turns-quiet.new.self.visible _ c.loop-made-test.true busy goes
     (rw c.in-Ok-Halted.field-0-is at c.in-Ok-Halted.ensures.ok)
 
 pub returns-in-Err : goal.returns-in-Err
 returns-in-Err g c =
-    let busy : stops_idling c.args.until_idle c.loop-made.machine.visible ≡ false = sym c.idles.ensures ∙ c.if-idles.false in
-    no_memory (stops_idling c.args.until_idle) _ _ _ c.loop-made.machine.visible c.try_turn.new.self.visible c.loop-made-test.true busy c.in-Err.ensures.err
-    (needs_by _ c.try_turn.result c.try_turn.ensures.needless (ap (λ r. is_err r) c.in-Err.is)) c.loop-made.invariant.goes
-
-pub loop-made-preserved : goal.loop-made-preserved
-loop-made-preserved g c =
-    let busy : stops_idling c.args.until_idle c.loop-made.machine.visible ≡ false = sym c.idles.ensures ∙ c.if-idles.false in
-    record {
-      turns = omega (arith, c.in-Ok-Ran.ensures.count, c.loop-made.invariant.turns);
-      goes = one_more (stops_idling c.args.until_idle) _ _ _ c.loop-made.machine.visible _ c.loop-made-test.true busy c.loop-made.invariant.goes
-          (rw c.in-Ok-Ran.field-0-is at c.in-Ok-Ran.ensures.ok);
-    }
+    let goes = none_more c.args.until_idle _ _ _ _ _ _ (omega (arith, c.if-quiet-gt0.false)) c.loop-made.invariant.goes c.quiet_turns-quiet.ensures.made in
+    let busy : stops_idling c.args.until_idle c.quiet_turns-quiet.new.self.visible ≡ false = sym c.idles.ensures ∙ c.if-idles.false in
+    no_memory (stops_idling c.args.until_idle) _ _ _ c.quiet_turns-quiet.new.self.visible c.try_turn.new.self.visible c.loop-made-test.true busy c.in-Err.ensures.err
+    (needs_by _ c.try_turn.result c.try_turn.ensures.needless (ap (λ r. is_err r) c.in-Err.is)) goes
 
 pub returns : goal.returns
-returns g c = all_made _ _ _ _ _ (omega arith) c.loop-made.invariant.goes
+returns g c = all_made _ _ _ _ _ (omega (arith, c.loop-made-test.false, c.loop-made.invariant.within)) c.loop-made.invariant.goes

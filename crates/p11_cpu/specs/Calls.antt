@@ -1,0 +1,2 @@
+-- What contracts of calls say beside the definitions.
+pub mod QuietTurns
