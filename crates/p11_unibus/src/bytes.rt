@@ -6,6 +6,7 @@ ghost use Rattle.p11_unibus.specs.Bytes.{byte_at, even, with_byte};
 pub struct TimeOut;
 
 /// The even address of the word that holds the byte at an address.
+#[inline(always)]
 pub fn even_address(address: u32) -> u32
     ensures { result ≡ even address }
 {
@@ -13,6 +14,7 @@ pub fn even_address(address: u32) -> u32
 }
 
 /// The byte of a word that stands at an address: the low one at an even address, the high one at an odd one.
+#[inline(always)]
 pub fn byte_of(address: u32, word: u16) -> u16
     ensures { result ≡ byte_at address word }
 {
@@ -24,6 +26,7 @@ pub fn byte_of(address: u32, word: u16) -> u16
 }
 
 /// A word with the byte that stands at an address replaced by the low byte of `byte`.
+#[inline(always)]
 pub fn replace_byte(address: u32, byte: u16, word: u16) -> u16
     ensures { result ≡ with_byte address byte word }
 {

@@ -11,6 +11,7 @@ use std::alloc::Allocator;
 const TRANSMITTER_HIGH_BYTE: u32 = 0o777567;
 
 /// Whether an address is that of the transmitter buffer's high byte.
+#[inline(always)]
 pub fn is_transmitter_high_byte(address: u32) -> bool
     ensures { result ≡ (address == transmitter_high_byte) }
 {
