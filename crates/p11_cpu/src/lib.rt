@@ -6,8 +6,11 @@
 
 mod bank;
 mod bus;
+mod codes;
 mod decoded_bus;
+mod double_bytes;
 mod double_operand;
+mod double_words;
 mod drives;
 mod extended_instructions;
 mod hardware;
@@ -16,7 +19,9 @@ mod instructions;
 mod laws;
 mod machine;
 mod management;
+mod memory;
 mod operand;
+mod operands;
 mod part;
 mod previous_space;
 mod processor_control;

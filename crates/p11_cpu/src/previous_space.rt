@@ -20,7 +20,7 @@ impl<A: Allocator> Hardware<A> {
             Place::Register(register) => Ok(self.previous_register(register)),
             Place::Memory(address) => {
                 let mode = self.previous_mode();
-                self.read_in(turn, mode, Size::Word, address)
+                self.read_word_in(turn, mode, address)
             }
         }
     }
@@ -37,7 +37,7 @@ impl<A: Allocator> Hardware<A> {
             }
             Place::Memory(address) => {
                 let mode = self.previous_mode();
-                self.write_in(turn, mode, Size::Word, address, word)
+                self.write_word_in(turn, mode, address, word)
             }
         }
     }
@@ -51,7 +51,7 @@ impl<A: Allocator> Hardware<A> {
         let word = self.read_previous(turn, source)?;
         let top = self.step_down(Register::Sp, 2)?;
         self.set_codes(logic(Width::Word, word, self.codes().c));
-        self.write(turn, Size::Word, top, word)?;
+        self.write_word(turn, top, word)?;
         Ok(())
     }
 

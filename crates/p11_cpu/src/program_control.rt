@@ -1,39 +1,14 @@
 ghost use Rattle.std.specs.Prelude.{◌≡◌, ℕ, ◌==◌};
 ghost use Rattle.p11_cpu.specs.Instructions.{execute_of};
 ghost use Rattle.p11_cpu.specs.ProgramControl.{is_taken, branch_address, branched, counted_back};
+ghost use Rattle.p11_cpu.specs.Registers.{codes_of};
 
 use crate::hardware::Hardware;
 use crate::trap::Trap;
 use crate::turn_number::TurnNumber;
 use crate::words::{minus, plus};
-use p11_alu::Codes;
 use p11_decode::{Condition, Count, Op, Operand, Register};
 use std::alloc::Allocator;
-
-/// Whether a branch is taken, by the condition codes.
-#[tactic(auto, unfolding(crate::specs::ProgramControl::is_taken))]
-#[inline(always)]
-fn takes(condition: Condition, codes: Codes) -> bool
-    ensures { result ≡ is_taken condition codes }
-{
-    match condition {
-        Condition::Always => true,
-        Condition::NotEqual => !codes.z,
-        Condition::Equal => codes.z,
-        Condition::GreaterOrEqual => codes.n == codes.v,
-        Condition::Less => codes.n != codes.v,
-        Condition::Greater => !codes.z && codes.n == codes.v,
-        Condition::LessOrEqual => codes.z || codes.n != codes.v,
-        Condition::Plus => !codes.n,
-        Condition::Minus => codes.n,
-        Condition::Higher => !codes.c && !codes.z,
-        Condition::LowerOrSame => codes.c || codes.z,
-        Condition::OverflowClear => !codes.v,
-        Condition::OverflowSet => codes.v,
-        Condition::CarryClear => !codes.c,
-        Condition::CarrySet => codes.c,
-    }
-}
 
 /// Where a branch goes from the word after it, by its signed offset in words.
 #[tactic(auto, unfolding(crate::specs::ProgramControl::branch_address))]
@@ -57,13 +32,38 @@ fn is_zero(word: u16) -> bool
 }
 
 impl<A: Allocator> Hardware<A> {
+    /// Whether a branch is taken. Each condition looks at its own codes alone.
+    #[tactic(auto, unfolding(crate::specs::ProgramControl::is_taken))]
+    #[inline(always)]
+    fn takes(&self, condition: Condition) -> bool
+        ensures { result ≡ is_taken condition (codes_of self.now) }
+    {
+        match condition {
+            Condition::Always => true,
+            Condition::NotEqual => !self.is_zero(),
+            Condition::Equal => self.is_zero(),
+            Condition::GreaterOrEqual => self.is_negative() == self.is_overflow(),
+            Condition::Less => self.is_negative() != self.is_overflow(),
+            Condition::Greater => !self.is_zero() && self.is_negative() == self.is_overflow(),
+            Condition::LessOrEqual => self.is_zero() || self.is_negative() != self.is_overflow(),
+            Condition::Plus => !self.is_negative(),
+            Condition::Minus => self.is_negative(),
+            Condition::Higher => !self.is_carry() && !self.is_zero(),
+            Condition::LowerOrSame => self.is_carry() || self.is_zero(),
+            Condition::OverflowClear => !self.is_overflow(),
+            Condition::OverflowSet => self.is_overflow(),
+            Condition::CarryClear => !self.is_carry(),
+            Condition::CarrySet => self.is_carry(),
+        }
+    }
+
     /// Sets PC to a branch's address, where the branch is taken.
     #[tactic(auto, unfolding(crate::specs::ProgramControl::branched))]
     #[inline(always)]
     fn take_branch(&mut self, condition: Condition, offset: u8)
         ensures { self.new ≡ branched condition offset self.old }
     {
-        if takes(condition, self.codes()) {
+        if self.takes(condition) {
             let target = branch_target(offset, self.register(Register::Pc));
             self.set_register(Register::Pc, target);
         }

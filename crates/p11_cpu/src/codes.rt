@@ -1,0 +1,82 @@
+//! The condition codes.
+ghost use Rattle.std.specs.Prelude.{◌≡◌};
+ghost use Rattle.p11_cpu.specs.Registers.{codes_of, set_codes_of};
+
+use crate::hardware::Hardware;
+use p11_alu::Codes;
+use std::alloc::Allocator;
+
+impl<A: Allocator> Hardware<A> {
+    /// The condition codes of the status word.
+    #[tactic(auto, unfolding(crate::specs::Registers::codes_of))]
+    #[inline(always)]
+    pub fn codes(&self) -> Codes
+        ensures { result ≡ codes_of self.now }
+    {
+        Codes {
+            n: self.status.n,
+            z: self.status.z,
+            v: self.status.v,
+            c: self.status.c,
+        }
+    }
+
+    /// Sets the condition codes of the status word.
+    #[tactic(auto, unfolding(crate::specs::Registers::set_codes_of))]
+    #[inline(always)]
+    pub fn set_codes(&mut self, codes: Codes)
+        ensures { self.new ≡ set_codes_of codes self.old }
+    {
+        self.status.n = codes.n;
+        self.status.z = codes.z;
+        self.status.v = codes.v;
+        self.status.c = codes.c;
+    }
+
+    /// Sets the condition codes of a result, and gives what it stores.
+    #[inline(always)]
+    pub fn conclude(&mut self, done: (u16, Codes)) -> u16
+        ensures state { self.new ≡ set_codes_of done.1 self.old }
+        ensures value { result ≡ done.0 }
+    {
+        let (stored, codes) = done;
+        self.set_codes(codes);
+        stored
+    }
+
+    /// Whether N is set.
+    #[tactic(auto, unfolding(crate::specs::Registers::codes_of))]
+    #[inline(always)]
+    pub fn is_negative(&self) -> bool
+        ensures { result ≡ (codes_of self.now).n }
+    {
+        self.status.n
+    }
+
+    /// Whether Z is set.
+    #[tactic(auto, unfolding(crate::specs::Registers::codes_of))]
+    #[inline(always)]
+    pub fn is_zero(&self) -> bool
+        ensures { result ≡ (codes_of self.now).z }
+    {
+        self.status.z
+    }
+
+    /// Whether V is set.
+    #[tactic(auto, unfolding(crate::specs::Registers::codes_of))]
+    #[inline(always)]
+    pub fn is_overflow(&self) -> bool
+        ensures { result ≡ (codes_of self.now).v }
+    {
+        self.status.v
+    }
+
+    /// Whether C is set.
+    #[tactic(auto, unfolding(crate::specs::Registers::codes_of))]
+    #[inline(always)]
+    pub fn is_carry(&self) -> bool
+        ensures { result ≡ (codes_of self.now).c }
+    {
+        self.status.c
+    }
+}
