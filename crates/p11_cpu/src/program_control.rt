@@ -10,17 +10,15 @@ use crate::words::{minus, plus};
 use p11_decode::{Condition, Count, Op, Operand, Register};
 use std::alloc::Allocator;
 
-/// Where a branch goes from the word after it, by its signed offset in words.
-#[tactic(auto, unfolding(crate::specs::ProgramControl::branch_address))]
+/// Where a branch goes from the word after it, by its signed offset in words. The least offset is -128, which the eight
+/// bits 10000000 are.
+#[tactic(auto, unfolding(crate::specs::ProgramControl::branch_address), using(crate::proofs::Branching::branched_by))]
 #[inline(always)]
 fn branch_target(offset: u8, pc: u16) -> u16
     ensures { result ≡ branch_address offset pc }
 {
-    if offset < 128 {
-        pc.wrapping_add(2 * u16::from(offset))
-    } else {
-        pc.wrapping_sub(2 * (256 - u16::from(offset)))
-    }
+    let from_least = offset.wrapping_add(128);
+    pc.wrapping_add(2 * u16::from(from_least)).wrapping_sub(256)
 }
 
 /// Whether a word is 0.
