@@ -1,5 +1,5 @@
 /// Which way bits move.
-#[derive(Clone, Copy, Debug, PartialEq, Eq)]
+#[derive(Clone, Copy)]
 pub enum Direction {
     Left,
     Right,

@@ -2,7 +2,7 @@ ghost use Rattle.std.specs.Prelude.{◌≡◌};
 ghost use Rattle.p11_alu.specs.Pairs.{number_of, pair_of, pair_value};
 
 /// Two words that are one number of 32 bits: a product, a dividend, or what ASHC shifts.
-#[derive(Clone, Copy, Debug, PartialEq, Eq)]
+#[derive(Clone, Copy)]
 pub struct Pair {
     pub high: u16,
     pub low: u16,

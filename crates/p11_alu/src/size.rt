@@ -1,5 +1,5 @@
 /// How wide an operand is: 16 bits, or the low 8 of them.
-#[derive(Clone, Copy, Debug, PartialEq, Eq)]
+#[derive(Clone, Copy)]
 pub enum Size {
     Word,
     Byte,

@@ -10,7 +10,7 @@ use clap::{Arg, ArgMatches, Command, Error};
 use std::alloc::{AllocError, Global};
 
 /// What the words of a command line give: the numbers, where they are given, and the script's name.
-#[derive(Debug, Drop)]
+#[derive(Drop)]
 pub struct Asked<'a> {
     /// Thousands of words of memory.
     pub memory: Option<u32>,
@@ -21,7 +21,7 @@ pub struct Asked<'a> {
 }
 
 /// Why the words of a command line name no script to run.
-#[derive(Debug, Drop)]
+#[derive(Drop)]
 pub enum Unasked {
     /// Help or the version was asked for: its text.
     Help(String),

@@ -9,7 +9,7 @@ use std::alloc::Global;
 
 /// The registers and status words of the processor and of memory management, between turns.
 #[repr(C)]
-#[derive(Clone, Copy, Debug, PartialEq, Eq)]
+#[derive(Clone, Copy, PartialEq, Eq)]
 pub struct Registers {
     /// The turns since the machine was made.
     pub turns: u64,

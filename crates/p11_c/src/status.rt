@@ -6,7 +6,7 @@ use p11_panel::NoMemory;
 use std::alloc::{AllocError, AllocFailed};
 
 /// How a call ended.
-#[derive(Clone, Copy, Debug, PartialEq, Eq)]
+#[derive(Clone, Copy, PartialEq, Eq)]
 pub enum Status {
     /// The session is done, and its answers and files are handed out.
     Done,

@@ -20,7 +20,7 @@ const ABOVE_THE_KERNEL_PAGES: u32 = 0o772400;
 const STATUS_0_ADDRESS: u32 = 0o777572;
 
 /// What answers at a bus address.
-#[derive(Clone, Copy, Debug, PartialEq, Eq)]
+#[derive(Clone, Copy)]
 pub(crate) enum Part {
     /// The processor: its status word.
     Status,

@@ -2,7 +2,7 @@
 //! work out.
 
 /// Instructions that read an operand, work out a value from it and the condition codes, and write it back.
-#[derive(Clone, Copy, Debug, PartialEq, Eq)]
+#[derive(Clone, Copy)]
 pub enum SingleOp {
     Com,
     Inc,
@@ -19,7 +19,7 @@ pub enum SingleOp {
 }
 
 /// Instructions that write a value to an operand without a read of it.
-#[derive(Clone, Copy, Debug, PartialEq, Eq)]
+#[derive(Clone, Copy)]
 pub enum StoreOnlyOp {
     Clr,
     /// Has no byte form.
@@ -27,7 +27,7 @@ pub enum StoreOnlyOp {
 }
 
 /// Instructions that work out a value from a source and a destination, and write it to the destination.
-#[derive(Clone, Copy, Debug, PartialEq, Eq)]
+#[derive(Clone, Copy)]
 pub enum ModifyOp {
     Bic,
     Bis,
@@ -40,14 +40,14 @@ pub enum ModifyOp {
 }
 
 /// Instructions that set the condition codes by a source and a destination, and write neither.
-#[derive(Clone, Copy, Debug, PartialEq, Eq)]
+#[derive(Clone, Copy)]
 pub enum CompareOp {
     Cmp,
     Bit,
 }
 
 /// What a condition code instruction does to the codes that it names.
-#[derive(Clone, Copy, Debug, PartialEq, Eq)]
+#[derive(Clone, Copy)]
 pub enum CodesOp {
     /// CLN, CLZ, CLV, CLC, CCC and all that clear several codes at once; NOP names none.
     Clear,
@@ -56,7 +56,7 @@ pub enum CodesOp {
 }
 
 /// Instructions that trap, each through a vector of its own.
-#[derive(Clone, Copy, Debug, PartialEq, Eq)]
+#[derive(Clone, Copy)]
 pub enum TrapOp {
     Bpt,
     Iot,
@@ -65,7 +65,7 @@ pub enum TrapOp {
 }
 
 /// Returns from a trap or an interrupt.
-#[derive(Clone, Copy, Debug, PartialEq, Eq)]
+#[derive(Clone, Copy)]
 pub enum ReturnOp {
     Rti,
     Rtt,

@@ -5,7 +5,7 @@ use crate::operand::{Operand, Register, Size};
 use std::marker::Model;
 
 /// When a branch is taken, by the condition codes.
-#[derive(Clone, Copy, Debug, PartialEq, Eq)]
+#[derive(Clone, Copy)]
 pub enum Condition {
     /// BR
     Always,
@@ -40,7 +40,7 @@ pub enum Condition {
 }
 
 /// Which of the condition codes an instruction names.
-#[derive(Clone, Copy, Debug, PartialEq, Eq)]
+#[derive(Clone, Copy, PartialEq, Eq)]
 pub struct NamedCodes {
     pub n: bool,
     pub z: bool,
@@ -49,7 +49,7 @@ pub struct NamedCodes {
 }
 
 /// A count of words, 0 to 63 (decimal), which SOB and MARK hold in six bits. A contract sees it as that number.
-#[derive(Clone, Copy, Debug, PartialEq, Eq)]
+#[derive(Clone, Copy, PartialEq, Eq)]
 pub struct Count {
     words: u8,
 }
@@ -85,7 +85,7 @@ impl Count {
 /// An instruction with its operands, of which the source comes first. Instructions that differ only in what they work
 /// out are a group of one variant. The others have the names of the assembler's mnemonics. A branch holds its offset in
 /// words as the eight bits of a two's complement number.
-#[derive(Clone, Copy, Debug, PartialEq, Eq)]
+#[derive(Clone, Copy)]
 pub enum Op {
     /// Reads an operand, works out a value from it, and writes the value back.
     Single(SingleOp, Size, Operand),

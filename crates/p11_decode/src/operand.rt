@@ -1,12 +1,12 @@
 /// Whether an instruction works on words of 16 bits or on bytes of 8.
-#[derive(Clone, Copy, Debug, PartialEq, Eq)]
+#[derive(Clone, Copy)]
 pub enum Size {
     Word,
     Byte,
 }
 
 /// One of the eight registers that an instruction word can name. R6 is the stack pointer, and R7 the program counter.
-#[derive(Clone, Copy, Debug, PartialEq, Eq)]
+#[derive(Clone, Copy, PartialEq, Eq)]
 pub enum Register {
     R0,
     R1,
@@ -19,7 +19,7 @@ pub enum Register {
 }
 
 /// An addressing mode, 0 to 7 in this order: how an operand is found from its register.
-#[derive(Clone, Copy, Debug, PartialEq, Eq)]
+#[derive(Clone, Copy, PartialEq, Eq)]
 pub enum Mode {
     Register,
     RegisterDeferred,
@@ -32,7 +32,7 @@ pub enum Mode {
 }
 
 /// The addressing mode and the register of an operand, six bits of an instruction word.
-#[derive(Clone, Copy, Debug, PartialEq, Eq)]
+#[derive(Clone, Copy, PartialEq, Eq)]
 pub struct Operand {
     pub mode: Mode,
     pub register: Register,

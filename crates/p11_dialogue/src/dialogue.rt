@@ -20,7 +20,7 @@ use std::io::Write;
 const MOST_BYTES: usize = 4096;
 
 /// What comes after a line.
-#[derive(Clone, Copy, Debug, PartialEq, Eq)]
+#[derive(Clone, Copy)]
 enum Next {
     /// The next line.
     Line,

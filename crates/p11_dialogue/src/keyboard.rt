@@ -21,7 +21,7 @@ pub trait Keyboard: Read {
 }
 
 /// What the keyboard gives at a moment.
-#[derive(Clone, Copy, Debug, PartialEq, Eq)]
+#[derive(Clone, Copy)]
 pub(crate) enum Press {
     Byte(u8),
     /// Nothing is pressed.

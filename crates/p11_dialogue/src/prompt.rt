@@ -8,7 +8,7 @@ use std::io::Write;
 const MOST_BYTES: usize = 4096;
 
 /// How a line came to its end.
-#[derive(Clone, Copy, Debug, PartialEq, Eq)]
+#[derive(Clone, Copy)]
 pub(crate) enum Entry {
     /// It is whole.
     Line,
@@ -19,7 +19,7 @@ pub(crate) enum Entry {
 }
 
 /// What a key does to the line that is typed.
-#[derive(Clone, Copy, Debug, PartialEq, Eq)]
+#[derive(Clone, Copy)]
 enum Edit {
     /// Goes on.
     GoOn,

@@ -16,7 +16,7 @@ pub trait Explain {
 }
 
 /// What is wrong with a line that isn't in the language.
-#[derive(Clone, Copy, Debug, PartialEq, Eq)]
+#[derive(Clone, Copy)]
 pub(crate) enum Misfit {
     /// The first word isn't known.
     Verb,

@@ -7,7 +7,7 @@ use std::alloc::Allocator;
 use std::io::Write;
 
 /// How a run is to go on.
-#[derive(Clone, Copy, Debug, PartialEq, Eq)]
+#[derive(Clone, Copy)]
 pub(crate) struct Course {
     /// Turns of one slice at most.
     pub(crate) slice: u32,
@@ -20,7 +20,7 @@ pub(crate) struct Course {
 }
 
 /// Why a run ended.
-#[derive(Clone, Copy, Debug, PartialEq, Eq)]
+#[derive(Clone, Copy)]
 pub(crate) enum End {
     /// The machine stopped.
     Stopped(StopReason),
@@ -35,7 +35,7 @@ pub(crate) enum End {
 }
 
 /// What became of a run so far.
-#[derive(Clone, Copy, Debug, PartialEq, Eq)]
+#[derive(Clone, Copy)]
 pub(crate) struct Run {
     pub(crate) turns: u64,
     pub(crate) pc: u16,
@@ -44,7 +44,7 @@ pub(crate) struct Run {
 }
 
 /// What one slice came to.
-#[derive(Clone, Copy, Debug, PartialEq, Eq)]
+#[derive(Clone, Copy)]
 enum Slice {
     /// The machine goes on; whether it has typed something.
     Went(bool),
@@ -54,7 +54,7 @@ enum Slice {
 }
 
 /// What a look at the keyboard came to.
-#[derive(Clone, Copy, Debug, PartialEq, Eq)]
+#[derive(Clone, Copy)]
 enum Look {
     Pressed,
     Nothing,

@@ -95,7 +95,7 @@ impl<A: Allocator + Copy> SavedPacks<A> {
 }
 
 /// What a line changes of the packs that files have.
-#[derive(Clone, Copy, Debug, PartialEq, Eq)]
+#[derive(Clone, Copy)]
 pub(crate) enum Change {
     None,
     /// A drive has another pack, or none.

@@ -1,7 +1,7 @@
 // The words with which a line of the console begins.
 
 /// What a word of a line has to be.
-#[derive(Clone, Copy, Debug, PartialEq, Eq)]
+#[derive(Clone, Copy)]
 pub(crate) enum Part {
     /// An address of the bus.
     Address,
@@ -28,7 +28,7 @@ pub(crate) enum Part {
 }
 
 /// The words of a line behind the first one.
-#[derive(Clone, Copy, Debug, PartialEq, Eq)]
+#[derive(Clone, Copy)]
 pub(crate) struct Parts {
     /// Those that have to stand there.
     pub(crate) wanted: &'static [Part],
@@ -37,7 +37,7 @@ pub(crate) struct Parts {
 }
 
 /// What a line of the console asks for.
-#[derive(Clone, Copy, Debug, PartialEq, Eq)]
+#[derive(Clone, Copy, PartialEq, Eq)]
 pub(crate) enum Verb {
     Examine,
     Deposit,

@@ -20,7 +20,7 @@ pub struct Person<K, W, E> {
 }
 
 /// What is asked for.
-#[derive(Clone, Copy, Debug, PartialEq, Eq)]
+#[derive(Clone, Copy, PartialEq, Eq)]
 pub struct Wish<'a> {
     /// The name of a file whose lines are done first.
     pub script: Option<&'a [u8]>,

@@ -9,7 +9,7 @@ use std::marker::Model;
 pub(crate) const MOST_KEYS: usize = 64;
 
 /// The keys that wait, the first pressed first. They have their room from the start.
-#[derive(Debug, Drop)]
+#[derive(Drop)]
 pub(crate) struct Keys<A: Allocator = Global> {
     ring: HeapCircularBuffer<u8, A>,
 }

@@ -21,7 +21,7 @@ pub struct KeysFull;
 /// A DL11 with a terminal: keys that are pressed wait until a program reads them, and characters that a program writes
 /// are typed. Up to 64 keys wait, and a character takes 64 turns on the line in either direction. Turns are counted
 /// from the time when the machine was made, up to 2^62.
-#[derive(Debug, Drop)]
+#[derive(Drop)]
 pub struct Dl11<A: Allocator = Global> {
     receiver: Receiver<A>,
     transmitter: Transmitter,

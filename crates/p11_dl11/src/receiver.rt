@@ -12,7 +12,7 @@ use std::marker::Model;
 /// A character takes so many turns on the line.
 pub(crate) const CHARACTER_TURNS: u64 = 64;
 
-#[derive(Debug, Drop)]
+#[derive(Drop)]
 pub(crate) struct Receiver<A: Allocator = Global> {
     done: bool,
     enable: bool,

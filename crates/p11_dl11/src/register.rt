@@ -2,7 +2,7 @@ ghost use Rattle.std.specs.Prelude.{◌≡◌};
 ghost use Rattle.p11_dl11.specs.Addresses.{register_at};
 
 /// A register of the console line.
-#[derive(Clone, Copy, Debug, PartialEq, Eq)]
+#[derive(Clone, Copy)]
 pub enum Register {
     /// RCSR, 777560: bit 7 done, bit 6 interrupt enable.
     ReceiverStatus,
@@ -17,6 +17,7 @@ pub enum Register {
 impl Register {
     /// The register at a bus address of 18 bits, if it is one of the console line's.
     #[tactic(auto, unfolding(crate::specs::Addresses::register_at))]
+    #[inline(always)]
     pub fn at(address: u32) -> Option<Register>
         ensures { result ≡ register_at address }
     {
@@ -32,7 +33,7 @@ impl Register {
 
 /// A section of the console line. Each interrupts at level 4: the receiver through vector 60, the transmitter through
 /// vector 64.
-#[derive(Clone, Copy, Debug, PartialEq, Eq)]
+#[derive(Clone, Copy)]
 pub enum Section {
     Receiver,
     Transmitter,

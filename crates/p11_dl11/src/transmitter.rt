@@ -9,13 +9,13 @@ use crate::status::{requests, section_word};
 use std::marker::Model;
 
 /// A character that is being sent, with the turn in which it is typed.
-#[derive(Clone, Copy, Debug, PartialEq, Eq)]
+#[derive(Clone, Copy)]
 pub struct Sending {
     pub character: u8,
     pub due: u64,
 }
 
-#[derive(Debug, Drop)]
+#[derive(Drop)]
 pub(crate) struct Transmitter {
     enable: bool,
     request: bool,

@@ -5,7 +5,7 @@ ghost use Rattle.p11_kt11.specs.Translation.{through};
 use crate::page::{Access, Descriptor, Growth, Page};
 
 /// Whether a reference reads or writes.
-#[derive(Clone, Copy, Debug, PartialEq, Eq)]
+#[derive(Clone, Copy)]
 pub enum Kind {
     Read,
     Write,

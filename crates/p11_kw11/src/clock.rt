@@ -12,7 +12,7 @@ const ENABLE: u32 = 6;
 /// A KW11-L line clock. Its one register, the status register, shows the monitor bit in bit 7 and the interrupt enable
 /// in bit 6. It interrupts at level 6 through vector 100 (octal). The line ticks when it is told to, and by itself after
 /// each period, where one is set.
-#[derive(Debug, Drop)]
+#[derive(Drop)]
 pub struct Kw11 {
     monitor: bool,
     enable: bool,

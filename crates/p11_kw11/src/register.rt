@@ -11,6 +11,7 @@ pub enum Register {
 impl Register {
     /// The register at a bus address of 18 bits, if it is the clock's.
     #[tactic(auto, unfolding(crate::specs::LineClock::register_at))]
+    #[inline(always)]
     pub fn at(address: u32) -> Option<Register>
         ensures { result ≡ register_at address }
     {

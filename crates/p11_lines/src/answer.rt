@@ -6,7 +6,7 @@ use p11_unibus::BusDevices;
 use std::alloc::{Allocator, Global};
 
 /// Why a run stopped.
-#[derive(Clone, Copy, Debug, PartialEq, Eq)]
+#[derive(Clone, Copy, PartialEq, Eq)]
 pub enum StopReason {
     /// The machine has halted: by HALT in kernel mode, or since a fatal service met a trap.
     Halt,
@@ -19,7 +19,7 @@ pub enum StopReason {
 }
 
 /// What the processor does between turns.
-#[derive(Clone, Copy, Debug, PartialEq, Eq)]
+#[derive(Clone, Copy, PartialEq, Eq)]
 pub enum Mark {
     /// The next turn runs an instruction.
     Ready,
@@ -30,7 +30,7 @@ pub enum Mark {
 }
 
 /// The processor's registers, status word and turn count.
-#[derive(Clone, Copy, Debug, PartialEq, Eq)]
+#[derive(Clone, Copy, PartialEq, Eq)]
 pub struct Registers {
     /// R0 to R5.
     pub general: [u16; 6],
@@ -49,7 +49,7 @@ pub struct Registers {
 }
 
 /// The status registers of memory management.
-#[derive(Clone, Copy, Debug, PartialEq, Eq)]
+#[derive(Clone, Copy, PartialEq, Eq)]
 pub struct ManagementRegisters {
     /// SR0: whether addresses are mapped, and what an abort kept of itself.
     pub status_0: u16,
@@ -58,7 +58,7 @@ pub struct ManagementRegisters {
 }
 
 /// What shows of the devices, without side effect.
-#[derive(Clone, Copy, Debug, PartialEq, Eq)]
+#[derive(Clone, Copy, PartialEq, Eq)]
 pub struct Devices {
     /// The devices on the bus.
     pub bus: BusDevices,
@@ -68,7 +68,7 @@ pub struct Devices {
 
 /// What a command answers.
 #[derive(Drop)]
-#[derive_where(Debug, PartialEq, Eq)]
+#[derive_where(PartialEq, Eq)]
 pub enum Answer<A: Allocator = Global> {
     /// The command is done, and has nothing to show.
     Done,

@@ -6,7 +6,6 @@ use std::marker::Model;
 
 /// A list of bytes. Clauses see it as a list of numbers.
 #[derive(Drop)]
-#[derive_where(Debug)]
 pub struct Bytes<A: Allocator = Global> {
     items: Vec<u8, A>,
 }

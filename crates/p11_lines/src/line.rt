@@ -5,7 +5,7 @@ use std::alloc::{Allocator, Global};
 
 /// A line of a script. Addresses, words and numbers of drives are octal in the text, counts and turns decimal.
 #[derive(Drop)]
-#[derive_where(Debug, PartialEq, Eq)]
+#[derive_where(PartialEq, Eq)]
 pub enum Line<A: Allocator = Global> {
     /// Mount the pack whose image has a name in a drive, protected from writes or not.
     Mount {

@@ -6,7 +6,6 @@ use std::marker::Model;
 
 /// A list of 16-bit words. Clauses see it as a list of numbers.
 #[derive(Drop)]
-#[derive_where(Debug)]
 pub struct Words<A: Allocator = Global> {
     items: Vec<u16, A>,
 }

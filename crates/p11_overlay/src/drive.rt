@@ -23,7 +23,7 @@ static ZEROS: [u8; SECTOR_BYTES] = [0; SECTOR_BYTES];
 /// Sectors are numbered from 0: (cylinder * 2 + surface) * 12 + sector of the track. A sector is
 /// written in two steps, so that the second can't fail: `prepare` finds what memory the write may
 /// need, and `write` takes none.
-#[derive(Debug, Drop)]
+#[derive(Drop)]
 pub struct Drive<A: Allocator = Global> {
     /// The mounted image, in whole sectors.
     base: Vec<[u8; SECTOR_BYTES], A>,

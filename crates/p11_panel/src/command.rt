@@ -2,7 +2,7 @@ use p11_lines::{Bytes, Words};
 use std::alloc::{Allocator, Global};
 
 /// A command of the operator's. Bus addresses have 18 bits, and words 16.
-#[derive(Debug, Drop)]
+#[derive(Drop)]
 pub enum Command<A: Allocator = Global> {
     /// Mount a pack that holds these bytes, and zeros behind them, on a drive, which may be protected from writes.
     Mount {

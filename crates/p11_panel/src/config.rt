@@ -5,7 +5,7 @@ use p11_lines::Fault;
 use std::marker::Model;
 
 /// The sizes of a machine, which are accepted ones.
-#[derive(Clone, Copy, Debug, PartialEq, Eq)]
+#[derive(Clone, Copy, PartialEq, Eq)]
 pub struct Config {
     kwords: u32,
     lines: u32,

@@ -5,7 +5,7 @@ ghost use Rattle.p11_psw.specs.Calls.Levels.{vector_level};
 use crate::priority::Priority;
 
 /// A vector of the machine.
-#[derive(Clone, Copy, Debug, PartialEq, Eq)]
+#[derive(Clone, Copy)]
 pub enum Vector {
     /// Odd address, time-out on the bus, stack limit, and the illegal JMP and JSR to a register.
     BusError,

@@ -1,5 +1,5 @@
 /// Where a stack pointer lies by the stack limit of kernel mode.
-#[derive(Clone, Copy, Debug, PartialEq, Eq)]
+#[derive(Clone, Copy, Debug)]
 pub enum Zone {
     /// At the limit, or above it.
     Clear,

@@ -4,7 +4,7 @@ ghost use Rattle.p11_rk11.specs.Address.{address_after, word_address};
 use std::marker::Model;
 
 /// A memory address of 18 bits, 0 to 777776: RKCS 5:4 and RKBA. It is even.
-#[derive(Clone, Copy, Debug, PartialEq, Eq)]
+#[derive(Clone, Copy)]
 pub struct BusAddress(u32);
 
 impl Model for BusAddress {

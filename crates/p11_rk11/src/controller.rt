@@ -18,7 +18,7 @@ use std::marker::Model;
 pub const DRIVES: usize = 8;
 
 /// Where the heads of a drive are.
-#[derive(Clone, Copy, Debug, PartialEq, Eq)]
+#[derive(Clone, Copy)]
 pub struct Heads {
     /// The cylinder, 0 to 202.
     pub cylinder: u8,
@@ -27,7 +27,7 @@ pub struct Heads {
 }
 
 /// The RK11 disk controller with its drives.
-#[derive(Debug, Drop)]
+#[derive(Drop)]
 pub struct Rk11<A: Allocator = Global> {
     pub(crate) registers: Registers,
     pub(crate) drives: Drives<A>,

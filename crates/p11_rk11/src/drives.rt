@@ -7,7 +7,6 @@ use std::alloc::{Allocator, Global};
 use std::marker::Model;
 
 /// The drives, each empty or with a pack mounted.
-#[derive(Debug)]
 pub(crate) struct Drives<A: Allocator = Global> {
     first: Option<Mounted<A>>,
     second: Option<Mounted<A>>,

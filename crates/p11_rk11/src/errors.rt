@@ -3,7 +3,7 @@ ghost use Rattle.p11_rk11.specs.Errors.{flag, error_word, with_failure};
 ghost use Rattle.p11_rk11.specs.Registers.{bit_of};
 
 /// The bits of RKER.
-#[derive(Clone, Copy, Debug, PartialEq, Eq)]
+#[derive(Clone, Copy)]
 pub struct Errors {
     pub write_check: bool,
     pub no_sector: bool,
@@ -17,7 +17,7 @@ pub struct Errors {
 }
 
 /// The hard errors: each ends the function.
-#[derive(Clone, Copy, Debug, PartialEq, Eq)]
+#[derive(Clone, Copy)]
 pub enum Failure {
     NoSector,
     NoCylinder,

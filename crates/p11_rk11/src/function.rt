@@ -2,7 +2,7 @@ ghost use Rattle.std.specs.Prelude.{◌≡◌, ◌<◌};
 ghost use Rattle.p11_rk11.specs.Functions.{function_of, function_number, uses_place, uses_memory, is_write, is_read, is_reset};
 
 /// The functions of RKCS 3:1, in the order of their numbers.
-#[derive(Clone, Copy, Debug, PartialEq, Eq)]
+#[derive(Clone, Copy)]
 pub enum Function {
     ControlReset,
     Write,

@@ -25,7 +25,7 @@ use std::alloc::{AllocError, Allocator, Global};
 use std::marker::Model;
 
 /// A seek under way.
-#[derive(Clone, Copy, Debug, PartialEq, Eq)]
+#[derive(Clone, Copy)]
 pub struct PendingSeek {
     /// The turn in which the heads arrive.
     pub due: u64,
@@ -34,7 +34,7 @@ pub struct PendingSeek {
 }
 
 /// A drive with its pack and its heads.
-#[derive(Debug, Drop)]
+#[derive(Drop)]
 pub(crate) struct Mounted<A: Allocator = Global> {
     drive: Drive<A>,
     cylinder: Cylinder,

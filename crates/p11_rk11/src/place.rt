@@ -5,7 +5,7 @@ ghost use Rattle.p11_rk11.specs.Calls.Places.{is_on_disk};
 use std::marker::Model;
 
 /// The number of a drive, 0 to 7.
-#[derive(Clone, Copy, Debug, PartialEq, Eq)]
+#[derive(Clone, Copy)]
 pub struct DriveNumber(u8);
 
 impl Model for DriveNumber {
@@ -37,7 +37,7 @@ impl DriveNumber {
 }
 
 /// A cylinder of a pack, 0 to 202.
-#[derive(Clone, Copy, Debug, PartialEq, Eq)]
+#[derive(Clone, Copy)]
 pub struct Cylinder(u8);
 
 impl Model for Cylinder {
@@ -69,7 +69,7 @@ impl Cylinder {
 }
 
 /// RKDA: a drive and a place on it, which may lie outside its 203 cylinders of 12 sectors.
-#[derive(Clone, Copy, Debug, PartialEq, Eq)]
+#[derive(Clone, Copy)]
 pub struct DiskAddress {
     drive: u8,
     cylinder: u8,

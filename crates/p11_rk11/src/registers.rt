@@ -13,7 +13,7 @@ use crate::register::Register;
 use crate::sector::Span;
 
 /// The registers of the controller.
-#[derive(Debug, Drop)]
+#[derive(Drop)]
 pub struct Registers {
     /// RKER.
     pub errors: Errors,

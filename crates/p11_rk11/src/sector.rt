@@ -32,7 +32,7 @@ pub(crate) fn bytes_of(words: &[u16; 256]) -> [u8; 512]
 }
 
 /// The memory of one sector's words.
-#[derive(Clone, Copy, Debug)]
+#[derive(Clone, Copy)]
 pub(crate) struct Span {
     pub(crate) start: BusAddress,
     /// Whether all words have the first word's address.
@@ -41,7 +41,7 @@ pub(crate) struct Span {
 }
 
 /// The addresses to which a sector's words are stored, at most 256, in the order of the words.
-#[derive(Debug, Drop)]
+#[derive(Drop)]
 pub struct Stores {
     span: Span,
 }

@@ -7,7 +7,7 @@ use p11_panel::{Fault, NoMemory, SessionFault};
 use std::alloc::{AllocError, AllocFailed};
 
 /// Why the program ends.
-#[derive(Debug, Drop)]
+#[derive(Drop)]
 pub enum Cause {
     /// The script's end.
     Done,

@@ -10,7 +10,7 @@ use p11_panel::Config;
 use std::alloc::Global;
 
 /// The sizes of the machine, and the script that it runs.
-#[derive(Debug, Drop)]
+#[derive(Drop)]
 pub struct Launch<'a> {
     pub config: Config,
     /// The name of the script's file, or `-`.

@@ -6,7 +6,7 @@ use std::marker::Model;
 
 /// The data bytes of a tape, each behind the address that it is for, in tape order. Contracts see the list of
 /// the pairs.
-#[derive(Debug, Drop)]
+#[derive(Drop)]
 pub struct TapeBytes<A: Allocator = Global> {
     items: Vec<(u16, u8), A>,
 }

@@ -10,7 +10,7 @@ use crate::fault::{TapeFault, TapeFaultKind};
 use std::alloc::{AllocError, Allocator, Global};
 
 /// What a tape means.
-#[derive(Debug, Drop)]
+#[derive(Drop)]
 pub struct Tape<A: Allocator = Global> {
     /// Its data bytes, each with its address, in tape order. A later byte for the same address comes later.
     pub bytes: TapeBytes<A>,

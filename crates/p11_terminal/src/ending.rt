@@ -1,14 +1,14 @@
 // How the program ends.
 
 /// Which writer failed, or took nothing.
-#[derive(Clone, Copy, Debug, PartialEq, Eq)]
+#[derive(Clone, Copy)]
 pub(crate) enum Torn {
     Screen,
     Record,
 }
 
 /// Why the program ends.
-#[derive(Debug, Drop)]
+#[derive(Drop)]
 pub(crate) enum Cause {
     /// The end of the dialogue.
     Done,

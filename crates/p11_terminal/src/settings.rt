@@ -7,7 +7,7 @@ use p11_panel::Config;
 use std::alloc::{AllocError, Global};
 
 /// The sizes of the machine, and how the dialogue is held.
-#[derive(Debug, Drop)]
+#[derive(Drop)]
 pub(crate) struct Launch<'a> {
     pub(crate) config: Config,
     /// Turns of a slice.

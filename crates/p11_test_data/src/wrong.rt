@@ -5,7 +5,7 @@ use std::fmt;
 use std::fmt::{Display, Formatter, Write};
 
 /// Why what a file of data says is not what comes.
-#[derive(Debug, Drop)]
+#[derive(Drop)]
 pub enum Wrong {
     /// There is no memory for the program itself.
     NoMemory,

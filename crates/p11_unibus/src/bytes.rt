@@ -2,7 +2,7 @@ ghost use Rattle.std.specs.Prelude.{◌≡◌};
 ghost use Rattle.p11_unibus.specs.Bytes.{byte_at, even, with_byte};
 
 /// Nothing answered at the address.
-#[derive(Clone, Copy, Debug, PartialEq, Eq)]
+#[derive(Clone, Copy)]
 pub struct TimeOut;
 
 /// The even address of the word that holds the byte at an address.

@@ -9,7 +9,7 @@ use p11_rk11::{DRIVES, Register as DiskRegister};
 use std::alloc::Allocator;
 
 /// What the operator is shown of the disk controller.
-#[derive(Clone, Copy, Debug, PartialEq, Eq)]
+#[derive(Clone, Copy, PartialEq, Eq)]
 pub struct DiskRegisters {
     /// RKDS, the drive status register.
     pub drive_status: u16,
@@ -28,7 +28,7 @@ pub struct DiskRegisters {
 }
 
 /// What the operator is shown of a drive on which a pack is mounted.
-#[derive(Clone, Copy, Debug, PartialEq, Eq)]
+#[derive(Clone, Copy, PartialEq, Eq)]
 pub struct DriveShown {
     /// Whether the drive is write-protected.
     pub protected: bool,
@@ -41,7 +41,7 @@ pub struct DriveShown {
 }
 
 /// What the operator is shown of the devices on the bus.
-#[derive(Clone, Copy, Debug, PartialEq, Eq)]
+#[derive(Clone, Copy, PartialEq, Eq)]
 pub struct BusDevices {
     /// The line clock's status register.
     pub clock: u16,

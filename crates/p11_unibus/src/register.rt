@@ -9,7 +9,7 @@ use p11_rk11::Register as DiskRegister;
 const SWITCHES: u32 = 0o777570;
 
 /// A register on the I/O page.
-#[derive(Clone, Copy, Debug, PartialEq, Eq)]
+#[derive(Clone, Copy)]
 pub enum Register {
     /// One of the line clock's.
     Clock(ClockRegister),
@@ -24,7 +24,7 @@ pub enum Register {
 impl Register {
     /// The register that stands at a bus address of 18 bits, if one does.
     #[tactic(auto, unfolding(crate::specs::Registers::register_at))]
-    #[inline(never)]
+    #[inline(always)]
     pub fn at(address: u32) -> Option<Register>
         ensures { result ≡ register_at address }
     {

@@ -5,7 +5,7 @@ ghost use Rattle.p11_unibus.specs.Requests.{source_level, source_vector};
 use p11_psw::{Priority, Vector};
 
 /// What requests interrupts.
-#[derive(Clone, Copy, Debug, PartialEq, Eq)]
+#[derive(Clone, Copy)]
 pub enum Source {
     /// The line clock.
     Clock,

@@ -41,7 +41,7 @@ fn each_line_is_read_and_written(rt: HostRuntime) -> Result<(), Fail> {
     for &(text, back) in &LINES {
         let line = parse_line(rt.alloc(), text)?;
         text_reads_back(&line);
-        assert_eq!(rt; line, parse_line(rt.alloc(), back)?);
+        assert!(rt; line == parse_line(rt.alloc(), back)?);
         assert_eq!(rt; line_of(rt.alloc(), &line)?.as_slice(), back);
     }
     assert_eq!(rt;
