@@ -1,4 +1,4 @@
-ghost use Rattle.std.specs.Prelude.{◌≡◌, ℕ, ◌==◌};
+ghost use Rattle.std.specs.Prelude.{◌≡◌, ℕ, ◌==◌, Ok};
 ghost use Rattle.p11_cpu.specs.Instructions.{execute_of};
 ghost use Rattle.p11_cpu.specs.ProgramControl.{is_taken, branch_address, branched, counted_back};
 ghost use Rattle.p11_cpu.specs.Registers.{codes_of};
@@ -82,11 +82,10 @@ impl<A: Allocator> Hardware<A> {
     /// BR and the conditional branches.
     #[tactic(auto, unfolding(crate::specs::Instructions::execute_of))]
     #[inline(always)]
-    pub fn branch(&mut self, condition: Condition, offset: u8) -> Result<(), Trap>
-        ensures { (turn : ℕ) → execute_of (Op.Branch condition offset) turn self.old ≡ (self.new, result) }
+    pub fn branch_on(&mut self, condition: Condition, offset: u8)
+        ensures { (turn : ℕ) → execute_of (Op.Branch condition offset) turn self.old ≡ (self.new, Ok tt) }
     {
         self.take_branch(condition, offset);
-        Ok(())
     }
 
     /// JMP.
@@ -149,11 +148,10 @@ impl<A: Allocator> Hardware<A> {
     /// SOB.
     #[tactic(auto, unfolding(crate::specs::Instructions::execute_of))]
     #[inline(always)]
-    pub fn sob(&mut self, register: Register, count: Count) -> Result<(), Trap>
-        ensures { (turn : ℕ) → execute_of (Op.Sob register count) turn self.old ≡ (self.new, result) }
+    pub fn sob(&mut self, register: Register, count: Count)
+        ensures { (turn : ℕ) → execute_of (Op.Sob register count) turn self.old ≡ (self.new, Ok tt) }
     {
         self.set_register(register, minus(self.register(register), 1));
         self.count_back(register, count);
-        Ok(())
     }
 }
