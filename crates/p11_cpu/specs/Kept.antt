@@ -2,6 +2,7 @@
 pub mod Agreement
 pub mod Bank
 pub mod Decoded
+pub mod Found
 pub mod Prepared
 pub mod Quiet
 pub mod View

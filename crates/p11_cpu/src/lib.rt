@@ -13,6 +13,7 @@ mod double_operand;
 mod double_words;
 mod drives;
 mod extended_instructions;
+mod found;
 mod hardware;
 mod held;
 mod instructions;

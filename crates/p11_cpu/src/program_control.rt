@@ -8,17 +8,16 @@ use crate::trap::Trap;
 use crate::turn_number::TurnNumber;
 use crate::words::{minus, plus};
 use p11_decode::{Condition, Count, Op, Operand, Register};
+use p11_icache::Displacement;
 use std::alloc::Allocator;
 
-/// Where a branch goes from the word after it, by its signed offset in words. The least offset is -128, which the eight
-/// bits 10000000 are.
-#[tactic(auto, unfolding(crate::specs::ProgramControl::branch_address), using(crate::proofs::Branching::branched_by))]
+/// Where a branch goes from the word after it.
+#[tactic(auto, using(crate::proofs::Branching::branched_by))]
 #[inline(always)]
-fn branch_target(offset: u8, pc: u16) -> u16
+fn branch_target(offset: Displacement, pc: u16) -> u16
     ensures { result ≡ branch_address offset pc }
 {
-    let from_least = offset.wrapping_add(128);
-    pc.wrapping_add(2 * u16::from(from_least)).wrapping_sub(256)
+    plus(pc, offset.bytes())
 }
 
 /// Whether a word is 0.
@@ -58,7 +57,7 @@ impl<A: Allocator> Hardware<A> {
     /// Sets PC to a branch's address, where the branch is taken.
     #[tactic(auto, unfolding(crate::specs::ProgramControl::branched))]
     #[inline(always)]
-    fn take_branch(&mut self, condition: Condition, offset: u8)
+    fn take_branch(&mut self, condition: Condition, offset: Displacement)
         ensures { self.new ≡ branched condition offset self.old }
     {
         if self.takes(condition) {
@@ -82,7 +81,7 @@ impl<A: Allocator> Hardware<A> {
     /// BR and the conditional branches.
     #[tactic(auto, unfolding(crate::specs::Instructions::execute_of))]
     #[inline(always)]
-    pub fn branch_on(&mut self, condition: Condition, offset: u8)
+    pub fn branch_on(&mut self, condition: Condition, offset: Displacement)
         ensures { (turn : ℕ) → execute_of (Op.Branch condition offset) turn self.old ≡ (self.new, Ok tt) }
     {
         self.take_branch(condition, offset);
