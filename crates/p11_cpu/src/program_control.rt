@@ -126,7 +126,7 @@ impl<A: Allocator> Hardware<A> {
         let link = self.register(register);
         self.set_register(Register::Pc, link);
         let saved = self.pop(turn)?;
-        self.set_register(register, saved);
+        self.set_pc_or_register(register, saved);
         Ok(())
     }
 
