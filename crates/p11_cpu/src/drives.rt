@@ -19,6 +19,7 @@ impl<A: Allocator> Hardware<A> {
         ensures { self.new ≡ with_bus (bus_after_mount n drive.contents self.old.bus) self.old }
     {
         self.ready.forget();
+        self.quiet_until = 0;
         self.bus.mount(n, drive);
     }
 
@@ -30,6 +31,7 @@ impl<A: Allocator> Hardware<A> {
         ensures { self.new ≡ with_bus (bus_after_unmount n self.old.bus) self.old }
     {
         self.ready.forget();
+        self.quiet_until = 0;
         self.bus.unmount(n);
     }
 
