@@ -36,6 +36,7 @@ mod service;
 mod single_operand;
 mod trap;
 mod turn;
+mod turn_ends;
 mod turn_number;
 mod words;
 

@@ -56,7 +56,8 @@ pub(crate) fn complement(size: Size, number: u16) -> u16
     }
 }
 
-/// The word of the same signed value: a byte with its sign in bits 15 to 8.
+/// The word of the same signed value: a byte with its sign in bits 15 to 8. That is 128 less than the byte with its
+/// highest bit turned, which the compiler makes one instruction of.
 #[tactic(auto, unfolding(crate::specs::Words::sign_extended))]
 #[inline(always)]
 pub(crate) fn extended(size: Size, value: u16) -> u16
@@ -64,12 +65,6 @@ pub(crate) fn extended(size: Size, value: u16) -> u16
 {
     match size {
         Size::Word => value,
-        Size::Byte => {
-            if value % 256 < 128 {
-                value % 256
-            } else {
-                value % 256 + 0o177400
-            }
-        }
+        Size::Byte => { u16::from(((value % 256) as u8).wrapping_add(128)).wrapping_sub(128) }
     }
 }
