@@ -145,13 +145,13 @@ def without_pages(case, ours, theirs, fields):
 
 def may_reach(case, first, last):
     """Whether an operand may lie from the first to the last address: where a register points, as it is or stepped back
-    once or twice, by a pointer there, or by an index."""
+    once or twice, by an index, or by a pointer at one of these."""
     general = case.registers[:8]
     behind = [case.memory.get(case.registers[8] + step, 0) for step in (2, 4)]
     stepped = [(word - step) % 65536 for word in general for step in (0, 2, 4)]
-    words = [*stepped, *(case.memory.get(word, 0) for word in stepped),
-             *behind, *((word + more) % 65536 for word in general for more in behind)]
-    return any(first <= word <= last for word in words)
+    indexed = [(word + more) % 65536 for word in general for more in behind]
+    pointers = [case.memory.get(word, 0) for word in (*stepped, *indexed)]
+    return any(first <= word <= last for word in (*stepped, *indexed, *behind, *pointers))
 
 
 def reaches_limit(case, ours, theirs, fields):
