@@ -6,6 +6,16 @@ use crate::mounted::Mounted;
 use std::alloc::{Allocator, Global};
 use std::marker::Model;
 
+/// Ends what was on a drive.
+fn end<A: Allocator>(_bay: Option<Mounted<A>>) {}
+
+/// Leaves a mounted pack, or nothing, in place of what was on a drive.
+fn leave<A: Allocator>(place: &mut Option<Mounted<A>>, bay: Option<Mounted<A>>)
+    ensures { place.new ≡ bay }
+{
+    *place = bay;
+}
+
 /// The drives, each empty or with a pack mounted.
 pub(crate) struct Drives<A: Allocator = Global> {
     first: Option<Mounted<A>>,
@@ -31,6 +41,14 @@ impl<A: Allocator> Drop for Drives<A> {
             seventh,
             eighth,
         } = self;
+        end(first);
+        end(second);
+        end(third);
+        end(fourth);
+        end(fifth);
+        end(sixth);
+        end(seventh);
+        end(eighth);
     }
 }
 
@@ -101,14 +119,14 @@ impl<A: Allocator> Drives<A> {
         ensures { self.new ≡ slice_set self.old n bay }
     {
         match n {
-            0 => self.first = bay,
-            1 => self.second = bay,
-            2 => self.third = bay,
-            3 => self.fourth = bay,
-            4 => self.fifth = bay,
-            5 => self.sixth = bay,
-            6 => self.seventh = bay,
-            _ => self.eighth = bay,
+            0 => leave(&mut self.first, bay),
+            1 => leave(&mut self.second, bay),
+            2 => leave(&mut self.third, bay),
+            3 => leave(&mut self.fourth, bay),
+            4 => leave(&mut self.fifth, bay),
+            5 => leave(&mut self.sixth, bay),
+            6 => leave(&mut self.seventh, bay),
+            _ => leave(&mut self.eighth, bay),
         }
     }
 }
