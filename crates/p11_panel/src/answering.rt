@@ -1,5 +1,6 @@
 ghost use Rattle.std.specs.Prelude.{◌≡◌};
 ghost use Rattle.p11_lines.specs.Grammar.{line_from};
+ghost use Rattle.p11_panel.specs.Commands.{Acts};
 ghost use Rattle.p11_panel.specs.Session.{is_silent, has_answer, with_store, LineDoes};
 ghost use Rattle.p11_panel.specs.Session.{Asks, Obeys, OnFile, SavesFile, Keeps};
 
@@ -24,6 +25,13 @@ fn silent(line: &[u8]) -> bool
     true
 }
 
+/// Does one command, which ends with it.
+fn done<A: Allocator + Copy>(alloc: A, panel: &mut Panel<A>, command: Command<A>) -> Answer<A>
+    ensures { Acts panel.old command result panel.new }
+{
+    panel.act(alloc, &command)
+}
+
 /// Mounts the bytes under a name.
 fn mount_file<A: Allocator + Copy, S: Store>(
     alloc: A,
@@ -39,9 +47,10 @@ fn mount_file<A: Allocator + Copy, S: Store>(
     match store.fetch(alloc, name) {
         Ok(image) => {
             let image = Bytes::from_vec(image);
-            panel.act(
+            done(
                 alloc,
-                &Command::Mount {
+                panel,
+                Command::Mount {
                     drive,
                     image,
                     protect,
@@ -66,7 +75,7 @@ fn load_file<A: Allocator + Copy, S: Store>(
     match store.fetch(alloc, name) {
         Ok(tape) => {
             let tape = Bytes::from_vec(tape);
-            panel.act(alloc, &Command::Load { tape })
+            done(alloc, panel, Command::Load { tape })
         }
         Err(StoreError::Refused) => Answer::Refused(Fault::StoreFault),
         Err(StoreError::NoMemory) => Answer::Refused(Fault::NoMemory),
@@ -118,27 +127,27 @@ pub fn obey<A: Allocator + Copy, S: Store>(
             name,
             protect,
         } => { mount_file(alloc, panel, store, drive, name.as_slice(), protect) }
-        Line::Unmount { drive } => panel.act(alloc, &Command::Unmount { drive }),
+        Line::Unmount { drive } => done(alloc, panel, Command::Unmount { drive }),
         Line::Save { drive, name } => save_file(alloc, panel, store, drive, name.as_slice()),
-        Line::Changed { drive } => panel.act(alloc, &Command::Changed { drive }),
+        Line::Changed { drive } => done(alloc, panel, Command::Changed { drive }),
         Line::Load { name } => load_file(alloc, panel, store, name.as_slice()),
         Line::Examine { address, count } => {
-            panel.act(alloc, &Command::Examine { address, count })
+            done(alloc, panel, Command::Examine { address, count })
         }
         Line::Deposit { address, words } => {
-            panel.act(alloc, &Command::Deposit { address, words })
+            done(alloc, panel, Command::Deposit { address, words })
         }
-        Line::Start { address } => panel.act(alloc, &Command::Start { address }),
-        Line::Key { text } => panel.act(alloc, &Command::Key { text }),
-        Line::Tick => panel.act(alloc, &Command::Tick),
-        Line::Clock { period } => panel.act(alloc, &Command::Clock { period }),
-        Line::Switches { word } => panel.act(alloc, &Command::Switches { word }),
-        Line::Set { register, value } => panel.act(alloc, &Command::Set { register, value }),
-        Line::Step { turns } => panel.act(alloc, &Command::Step { turns }),
-        Line::Continue { turns } => panel.act(alloc, &Command::Continue { turns }),
-        Line::Flush => panel.act(alloc, &Command::Flush),
-        Line::Regs => panel.act(alloc, &Command::Regs),
-        Line::Device => panel.act(alloc, &Command::Device),
+        Line::Start { address } => done(alloc, panel, Command::Start { address }),
+        Line::Key { text } => done(alloc, panel, Command::Key { text }),
+        Line::Tick => done(alloc, panel, Command::Tick),
+        Line::Clock { period } => done(alloc, panel, Command::Clock { period }),
+        Line::Switches { word } => done(alloc, panel, Command::Switches { word }),
+        Line::Set { register, value } => done(alloc, panel, Command::Set { register, value }),
+        Line::Step { turns } => done(alloc, panel, Command::Step { turns }),
+        Line::Continue { turns } => done(alloc, panel, Command::Continue { turns }),
+        Line::Flush => done(alloc, panel, Command::Flush),
+        Line::Regs => done(alloc, panel, Command::Regs),
+        Line::Device => done(alloc, panel, Command::Device),
     }
 }
 
