@@ -3,7 +3,8 @@
 # make NAME       proves the crate NAME, and before it what it stands on
 #
 # Which crate stands on which is read off crates.txt, whose lines are rules of make. Crates that don't stand on each other
-# are proved side by side (make -j). With DONE, a file to list them in, and OF, a number, what is said has their number.
+# are proved side by side (make -j), each in a copy of the repository (tools/apart). With DONE, a file to list them in, and
+# OF, a number, what is said has their number.
 
 PREFIX ?= /usr/local
 SHARE := $(DESTDIR)$(PREFIX)/share
@@ -33,10 +34,11 @@ behind = $(if $(filter $@,$(chain)),,nice -n 10)
 .PHONY: $(crates) $(kit)
 .ONESHELL:
 $(crates):
-	@cd crates/$@ && mkdir -p out || exit
+	@log=$$PWD/crates/$@/out/build.log
+	mkdir -p "$${log%/*}" || exit
 	began=$$(date +%s)
-	if ! $(behind) rt $(verb) >out/build.log 2>&1 </dev/null; then
-	    echo "p11: $@ can't be proved or built; $$PWD/out/build.log says why" >&2
+	if ! $(behind) tools/apart $@ rt $(verb) >"$$log" 2>&1 </dev/null; then
+	    echo "p11: $@ can't be proved or built; $$log says why" >&2
 	    exit 1
 	fi
 	number=$(if $(DONE),"$$(echo $@ >>'$(DONE)' && wc -l <'$(DONE)') of $(OF)")
