@@ -27,7 +27,7 @@ kit := $(filter-out $(crates) %:,$(shell sed '/^\#/d' crates.txt))
 # The longest chain of crates goes first: each other crate is proved with what this one leaves of the cores. The large
 # crates, of which one at a time is proved, get as many jobs as rt finds room for, and each other crate one.
 chain := p11_overlay p11_rk11 p11_unibus p11_cpu p11_panel p11_run
-large := p11_rk11 p11_unibus p11_lines p11_cpu p11_panel
+large := p11_overlay p11_rk11 p11_unibus p11_lines p11_cpu p11_panel
 verb = $(if $(filter $@,$(programs)),run -- --help,lib $(if $(filter $@,$(large)),,--jobs 1))
 behind = $(if $(filter $@,$(chain)),,nice -n 10)
 
