@@ -24,12 +24,12 @@ include crates.txt
 crates := $(notdir $(patsubst %/,%,$(wildcard crates/*/)))
 programs := $(notdir $(patsubst %/src/main.rt,%,$(wildcard crates/*/src/main.rt)))
 kit := $(filter-out $(crates) %:,$(shell sed '/^\#/d' crates.txt))
-# The longest chain of crates goes first: each other crate is proved with what this one leaves of the cores. The large
-# crates, of which one at a time is proved, get as many jobs as rt finds room for, and each other crate one.
-chain := p11_overlay p11_rk11 p11_unibus p11_cpu p11_panel p11_run
-large := p11_overlay p11_rk11 p11_unibus p11_lines p11_cpu p11_panel
+# What the processor stands on goes first, and then the longest chain: these others are proved with what that leaves of the
+# cores. The large crates get as many jobs as rt finds room for, and each other crate one.
+aside := p11_tape p11_arguments p11_lines
+large := p11_decode p11_overlay p11_rk11 p11_unibus p11_lines p11_cpu p11_panel
 verb = $(if $(filter $@,$(programs)),run -- --help,lib $(if $(filter $@,$(large)),,--jobs 1))
-behind = $(if $(filter $@,$(chain)),,nice -n 10)
+behind = $(if $(filter $@,$(aside)),nice -n 10)
 
 .PHONY: $(crates) $(kit)
 .ONESHELL:
