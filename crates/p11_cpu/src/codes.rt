@@ -33,6 +33,18 @@ impl<A: Allocator> Hardware<A> {
         self.status.c = codes.c;
     }
 
+    /// The same where C is as it was, so that it need not be written.
+    #[tactic(auto, unfolding(crate::specs::Registers::codes_of, crate::specs::Registers::set_codes_of))]
+    #[inline(always)]
+    pub fn set_codes_but_carry(&mut self, codes: Codes)
+        requires { codes.c ≡ (codes_of self.old).c }
+        ensures { self.new ≡ set_codes_of codes self.old }
+    {
+        self.status.n = codes.n;
+        self.status.z = codes.z;
+        self.status.v = codes.v;
+    }
+
     /// Sets the condition codes of a result, and gives what it stores.
     #[inline(always)]
     pub fn conclude(&mut self, done: (u16, Codes)) -> u16
@@ -41,6 +53,18 @@ impl<A: Allocator> Hardware<A> {
     {
         let (stored, codes) = done;
         self.set_codes(codes);
+        stored
+    }
+
+    /// The same where C is as it was.
+    #[inline(always)]
+    pub fn conclude_but_carry(&mut self, done: (u16, Codes)) -> u16
+        requires { done.1.c ≡ (codes_of self.old).c }
+        ensures state { self.new ≡ set_codes_of done.1 self.old }
+        ensures value { result ≡ done.0 }
+    {
+        let (stored, codes) = done;
+        self.set_codes_but_carry(codes);
         stored
     }
 
