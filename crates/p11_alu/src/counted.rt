@@ -34,6 +34,7 @@ fn widened(number: i64, places: u32) -> i64
 }
 
 /// A number of so many bits after a counted shift, before it is cut, and the last bit that went out.
+#[inline(always)]
 fn shifted(number: i64, bits: u32, count: u16) -> (i64, bool)
     requires low { neg_ℤ (pos 2147483648) ≤ℤ number }
     requires high { number <ℤ pos 2147483648 }
@@ -58,6 +59,7 @@ fn shifted(number: i64, bits: u32, count: u16) -> (i64, bool)
 /// ASH: a word shifted by the signed number in the low six bits of `count`, to the left if it is
 /// positive.
 #[tactic(auto, unfolding(crate::specs::CountedShifts::ash_of))]
+#[inline(always)]
 pub fn ash(word: u16, count: u16) -> (u16, Codes)
     ensures { result ≡ ash_of word count }
 {
@@ -75,6 +77,7 @@ pub fn ash(word: u16, count: u16) -> (u16, Codes)
 /// ASHC: a pair shifted as one number of 32 bits, by the signed number in the low six bits of
 /// `count`, to the left if it is positive.
 #[tactic(auto, unfolding(crate::specs::CountedShifts::ashc_of))]
+#[inline(always)]
 pub fn ashc(pair: Pair, count: u16) -> (Pair, Codes)
     ensures { result ≡ ashc_of pair count }
 {

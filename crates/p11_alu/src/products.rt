@@ -46,6 +46,7 @@ fn product(a: u16, b: u16) -> i64
 
 /// MUL: the signed product of two words, as 32 bits.
 #[tactic(auto, unfolding(crate::specs::Products::mul_of))]
+#[inline(always)]
 pub fn mul(a: u16, b: u16) -> (Pair, Codes)
     ensures { result ≡ mul_of a b }
 {
@@ -111,6 +112,7 @@ fn stored(quotient: i64, remainder: i64) -> Quotient
 }
 
 /// The answer for a divisor that isn't 0.
+#[inline(always)]
 fn divided_by(dividend: Pair, divisor: u16) -> Quotient
     requires { divisor ≢ 0 }
     ensures { result
@@ -125,6 +127,7 @@ fn divided_by(dividend: Pair, divisor: u16) -> Quotient
 /// DIV: the signed number of a pair by that of a word, towards 0. The remainder is 0 or has the
 /// sign of the dividend.
 #[tactic(auto, unfolding(crate::specs::Products::div_of))]
+#[inline(always)]
 pub fn div(dividend: Pair, divisor: u16) -> Quotient
     ensures value { result ≡ div_of dividend divisor }
     ensures by_zero { divisor ≡ 0 → result ≡ answer_without true }

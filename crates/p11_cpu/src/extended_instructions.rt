@@ -25,6 +25,7 @@ fn low_half(register: Register) -> Register
 impl<A: Allocator> Hardware<A> {
     /// A register and the next one, or an odd register twice.
     #[tactic(auto, unfolding(crate::specs::Registers::pair_of_registers))]
+    #[inline(always)]
     fn pair(&self, register: Register) -> Pair
         ensures { result ≡ pair_of_registers register self.now }
     {
