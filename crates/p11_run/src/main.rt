@@ -86,6 +86,20 @@ fn run_counted<L: Ledger>(rt: &HostRuntime, launch: &Launch<'_>, blank: Blank) -
     requires some { 0 < blank.parts }
 {
     let mut panel = Panel::new(rt.alloc(), launch.config)?;
+    run_on::<L>(rt, launch, &mut panel, blank)
+}
+
+/// The same on this machine.
+fn run_on<L: Ledger>(
+    rt: &HostRuntime,
+    launch: &Launch<'_>,
+    panel: &mut Panel,
+    blank: Blank,
+) -> Result<(), Cause>
+    requires name { blank.name ≡ L.name }
+    requires parts { blank.parts ≡ L.parts }
+    requires some { 0 < blank.parts }
+{
     let mut store = FileStore::<L>::new(rt, blank);
     let mut script = StdReader {
         inner: ScriptReader::open(rt, launch)?,
@@ -93,6 +107,6 @@ fn run_counted<L: Ledger>(rt: &HostRuntime, launch: &Launch<'_>, blank: Blank) -
     let mut output = StdWriter {
         inner: io::writer(rt),
     };
-    session(rt.alloc(), &mut panel, &mut store, &mut script, &mut output)?;
+    session(rt.alloc(), panel, &mut store, &mut script, &mut output)?;
     Ok(())
 }
