@@ -36,7 +36,12 @@ class Case(NamedTuple):
 
     @property
     def instruction(self):
-        return self.memory.get(self.registers[8], 0)
+        """The word at PC, where the page lies that the mode has there."""
+        place = self.registers[8]
+        if self.pages:
+            address = self.pages[8 + place // 0o20000 + (16 if self.registers[9] >> 14 else 0)]
+            place = address * 0o100 + place % 0o20000
+        return self.memory.get(place, 0)
 
 
 class Maker:
