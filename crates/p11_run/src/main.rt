@@ -58,6 +58,7 @@ fn run(rt: &HostRuntime) -> Result<(), Cause> {
 }
 
 /// The words of the command line, the program's name first.
+#[inline(never)]
 fn words(rt: &HostRuntime) -> Result<Vec<String>, Cause> {
     let mut words = Vec::new(rt.alloc());
     match env::args(rt) {
