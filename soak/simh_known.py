@@ -116,7 +116,8 @@ def modified(case, ours, theirs, fields):
     if octal(theirs, "777572") & 0o20000 and not octal(ours, "777572") & 0o160000:
         return fields
     read_only = within(ours, theirs, fields & {"777572"}, 0o20000)
-    written = within(ours, theirs, set(filter(is_page, fields)), 0o100)
+    # (W, and where SWAB turns the page's own descriptor, which SIMH reads with W set, the bit to which that goes)
+    written = within(ours, theirs, set(filter(is_page, fields)), 0o40100 if one_operand(case) == 3 else 0o100)
     return read_only | written | pushed_codes(ours, theirs, fields)
 
 
