@@ -1,5 +1,6 @@
 pub mod Registers
 pub mod DeviceLaws
 pub mod Listing
+pub mod FirstTurns
 pub mod DueLemmas
 mod QuietLemmas

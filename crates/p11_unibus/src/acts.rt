@@ -40,8 +40,9 @@ impl<A: Allocator> Unibus<A> {
         ensures needless { needs_memory turn self.old.visible ≡ false → IsOk result }
         ensures written { self.new.written ≡ self.old.written }
     {
-        self.typed.prepare(self.line.types_in(turn))?;
-        self.disk.prepare(turn)
+        let devices = &mut *self.devices;
+        self.typed.prepare(devices.line.types_in(turn))?;
+        devices.disk.prepare(turn)
     }
 
     /// What the line clock does in this turn: where it is due, the line ticks.
@@ -53,8 +54,9 @@ impl<A: Allocator> Unibus<A> {
         ensures written { self.new.written ≡ self.old.written }
     {
         let but_clock = self.nearest_but_clock();
-        self.clock.act(turn);
-        self.ahead = look_from(but_clock, &self.clock, &self.line, &self.disk);
+        let devices = &mut *self.devices;
+        devices.clock.act(turn);
+        self.ahead = look_from(but_clock, devices);
     }
 
     /// What the console line does in this turn: the receiver may take a key, then a character that is due is typed.
@@ -66,8 +68,9 @@ impl<A: Allocator> Unibus<A> {
         ensures disk { disk_view self.new.visible self.new.prepared ≡ disk_view self.old.visible self.old.prepared }
         ensures written { self.new.written ≡ self.old.written }
     {
-        self.typed.put(self.line.act(turn));
-        self.ahead = look_ahead(&self.clock, &self.line, &self.disk);
+        let devices = &mut *self.devices;
+        self.typed.put(devices.line.act(turn));
+        self.ahead = look_ahead(devices);
     }
 
     /// What the disk controller does in this turn: the transfer moves its sector where one is due, and seeks that are
@@ -80,9 +83,10 @@ impl<A: Allocator> Unibus<A> {
         ensures state { self.new.visible ≡ bus_after_disk turn self.old.visible }
         ensures written { self.new.written ≡ stores_of turn self.old.visible.disk }
     {
-        self.written.note_all(&self.disk.stores(turn));
-        self.disk.act(turn, &mut self.memory);
-        self.ahead = look_ahead(&self.clock, &self.line, &self.disk);
+        let devices = &mut *self.devices;
+        self.written.note_all(&devices.disk.stores(turn));
+        devices.disk.act(turn, &mut self.memory);
+        self.ahead = look_ahead(devices);
     }
 
     /// What the console line and then the disk controller do in this turn.

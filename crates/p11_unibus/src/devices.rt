@@ -81,14 +81,15 @@ impl<A: Allocator> Unibus<A> {
     fn disk_registers(&self, turn: u64) -> DiskRegisters
         ensures { result ≡ disk_registers turn self.now.visible.disk }
     {
+        let disk = &self.devices.disk;
         DiskRegisters {
-            drive_status: self.disk.read(turn, DiskRegister::DriveStatus),
-            error: self.disk.read(turn, DiskRegister::Error),
-            control_status: self.disk.read(turn, DiskRegister::ControlStatus),
-            word_count: self.disk.read(turn, DiskRegister::WordCount),
-            bus_address: self.disk.read(turn, DiskRegister::BusAddress),
-            disk_address: self.disk.read(turn, DiskRegister::DiskAddress),
-            transfer_due: self.disk.transfer_due(),
+            drive_status: disk.read(turn, DiskRegister::DriveStatus),
+            error: disk.read(turn, DiskRegister::Error),
+            control_status: disk.read(turn, DiskRegister::ControlStatus),
+            word_count: disk.read(turn, DiskRegister::WordCount),
+            bus_address: disk.read(turn, DiskRegister::BusAddress),
+            disk_address: disk.read(turn, DiskRegister::DiskAddress),
+            transfer_due: disk.transfer_due(),
         }
     }
 
@@ -97,9 +98,10 @@ impl<A: Allocator> Unibus<A> {
         requires { n < drive_count }
         ensures { result ≡ drive_shown (drive_of self.now.visible.disk n) }
     {
-        match self.disk.drive(n) {
+        let disk = &self.devices.disk;
+        match disk.drive(n) {
             Some(drive) => {
-                let heads = self.disk.heads(n);
+                let heads = disk.heads(n);
                 Some(DriveShown {
                     protected: drive.protected(),
                     cylinder: heads.cylinder,
@@ -135,22 +137,23 @@ impl<A: Allocator> Unibus<A> {
         ensures { result ≡ devices_of turn self.now.visible }
     {
         let due = self.due(turn);
+        let devices = &*self.devices;
         BusDevices {
-            clock: self.clock.read(),
-            clock_period: self.clock.period(),
+            clock: devices.clock.read(),
+            clock_period: devices.clock.period(),
             clock_due: due.clock,
-            receiver_status: self.line.peek(LineRegister::ReceiverStatus),
-            receiver_buffer: self.line.peek(LineRegister::ReceiverBuffer),
-            transmitter_status: self.line.peek(LineRegister::TransmitterStatus),
-            keys: 64 - self.line.room(),
+            receiver_status: devices.line.peek(LineRegister::ReceiverStatus),
+            receiver_buffer: devices.line.peek(LineRegister::ReceiverBuffer),
+            transmitter_status: devices.line.peek(LineRegister::TransmitterStatus),
+            keys: 64 - devices.line.room(),
             receiver_due: due.receiver,
             transmitter_due: due.transmitter,
             disk: self.disk_registers(turn),
             drives: self.drives_shown(),
-            clock_request: self.clock.request(),
-            disk_request: self.disk.request(),
-            receiver_request: self.line.request(Section::Receiver),
-            transmitter_request: self.line.request(Section::Transmitter),
+            clock_request: devices.clock.request(),
+            disk_request: devices.disk.request(),
+            receiver_request: devices.line.request(Section::Receiver),
+            transmitter_request: devices.line.request(Section::Transmitter),
         }
     }
 }

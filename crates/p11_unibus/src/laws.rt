@@ -64,7 +64,7 @@ pub fn nothing_happens_where_nothing_is_due()
 
 /// The next due turn is the first later turn in which a device acts, and there is none exactly where no device acts in
 /// any later turn.
-#[tactic(auto, using(crate::proofs::DueLemmas::none_is_none))]
+#[tactic(auto, using(crate::proofs::FirstTurns::none_is_none))]
 pub fn the_next_due_turn_is_the_first_in_which_a_device_acts()
     ensures next { (b : BusState) (turn n : ℕ) → (next_due turn b ≡ Some n) ↔ IsNextDue turn b n }
     ensures none { (b : BusState) (turn : ℕ) → (next_due turn b ≡ None) ↔ NoneLater turn b }

@@ -6,6 +6,7 @@
 #![tactic(auto)]
 
 mod acts;
+mod attached;
 mod bytes;
 mod device;
 mod devices;

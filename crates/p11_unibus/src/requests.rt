@@ -15,11 +15,12 @@ impl<A: Allocator> Unibus<A> {
     fn requests(&self, source: Source) -> bool
         ensures { result ≡ requests source self.now.visible }
     {
+        let devices = &*self.devices;
         match source {
-            Source::Clock => self.clock.request(),
-            Source::Disk => self.disk.request(),
-            Source::Receiver => self.line.request(Section::Receiver),
-            Source::Transmitter => self.line.request(Section::Transmitter),
+            Source::Clock => devices.clock.request(),
+            Source::Disk => devices.disk.request(),
+            Source::Receiver => devices.line.request(Section::Receiver),
+            Source::Transmitter => devices.line.request(Section::Transmitter),
         }
     }
 
@@ -67,13 +68,14 @@ impl<A: Allocator> Unibus<A> {
         ensures memory { self.new.visible.memory ≡ self.old.visible.memory }
         ensures written { self.new.written ≡ self.old.written }
     {
+        let devices = &mut *self.devices;
         match source {
-            Source::Clock => self.clock.ack(),
-            Source::Disk => self.disk.ack(),
-            Source::Receiver => self.line.ack(Section::Receiver),
-            Source::Transmitter => self.line.ack(Section::Transmitter),
+            Source::Clock => devices.clock.ack(),
+            Source::Disk => devices.disk.ack(),
+            Source::Receiver => devices.line.ack(Section::Receiver),
+            Source::Transmitter => devices.line.ack(Section::Transmitter),
         }
-        self.ahead = look_ahead(&self.clock, &self.line, &self.disk);
+        self.ahead = look_ahead(devices);
     }
 
     /// Grants the highest request above a priority, which drops it: the vector through which it interrupts.
