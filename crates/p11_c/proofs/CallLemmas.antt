@@ -4,7 +4,7 @@ use Rattle.std.proofs.lemmas.Bool.{cases_Bool}
 use Rattle.p11_lines.specs.declared.fault.Fault.{Fault}
 use Rattle.p11_lines.specs.declared.fault.Fault.TheVariants as faults
 use Rattle.p11_cpu.specs.Operator.{new_machine}
-use Rattle.p11_panel.specs.Calls.Files.{NamedBytes}
+use Rattle.p11_store.specs.Calls.Files.{NamedBytes}
 use Rattle.p11_panel.specs.Calls.Sizes.{Sizes, is_size, sizes_of}
 use Rattle.p11_c.specs.Calls.{Asked, Lent, HandsOut, asked_for, Refuses, PlaysOver, SessionGives}
 use Rattle.p11_c.specs.Rows.{IsRow, IsNoRow}

@@ -3,7 +3,7 @@ use Rattle.std.proofs.Common.{◌≡◌, ◌⊎◌, ℕ, ℤ, true, false, List,
 use Rattle.std.specs.Io.KnownBytes.{Appends, Consumes, IsAtEnd}
 use Rattle.p11_lines.specs.Writers.{WriterState}
 use Rattle.p11_cpu.specs.State.{State}
-use Rattle.p11_panel.specs.Calls.Files.{NamedBytes, MemoryFiles, store_of}
+use Rattle.p11_store.specs.Calls.Files.{NamedBytes, MemoryFiles, store_of}
 use Rattle.p11_panel.specs.Script.{ended_lines, script_lines}
 use Rattle.p11_panel.specs.Session.{with_store, LineDoes, Runs, Did, Broke, texts_of}
 use Rattle.p11_panel.specs.Calls.Sizes.{Sizes, is_size, sizes_of}

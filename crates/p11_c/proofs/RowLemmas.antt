@@ -3,7 +3,7 @@ use Rattle.std.proofs.Common.{◌≡◌, ◌≢◌, ℕ, suc, ◌+◌, ◌*◌, 
 use Rattle.std.proofs.lemmas.List.{length-append, length-drop, take-append-drop, length-take, take_all, take_more, flat_map_more}
 use Rattle.std.proofs.lemmas.List.Elements.{All-nil, All-cons, All-append}
 use Rattle.std.proofs.Math.Seq.{drop-append_seam, take-append_seam}
-use Rattle.p11_panel.specs.Calls.Files.{NamedBytes}
+use Rattle.p11_store.specs.Calls.Files.{NamedBytes}
 use Rattle.p11_c.specs.Rows.{number_bytes, counted, file_row, row_of, Fits, IsRow, Follows, FollowsFile, HasNoFile, HasNoBytes, IsNoRow, RowsReadBack}
 
 -- parts of one length, and what follows them

@@ -3,7 +3,7 @@ use Rattle.std.specs.Prelude.{ℤ, ◌≡◌, ◌<◌, ◌≤◌, ◌⊎◌, ℕ
 use Rattle.p11_lines.specs.declared.answer.Answer.{Answer}
 use Rattle.p11_cpu.specs.State.{State}
 use Rattle.p11_cpu.specs.Operator.{new_machine}
-use Rattle.p11_panel.specs.Calls.Files.{NamedBytes, MemoryFiles, store_of}
+use Rattle.p11_store.specs.Calls.Files.{NamedBytes, MemoryFiles, store_of}
 use Rattle.p11_panel.specs.Script.{script_lines}
 use Rattle.p11_panel.specs.Session.{with_store, LineDoes, Runs, texts_of}
 use Rattle.p11_panel.specs.Calls.Sizes.{is_size}

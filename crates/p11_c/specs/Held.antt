@@ -2,7 +2,7 @@
 use Rattle.std.specs.Prelude.{ℕ, List, [], Option, None, Some}
 use Rattle.p11_cpu.specs.State.{State}
 use Rattle.p11_cpu.specs.Operator.{new_machine}
-use Rattle.p11_panel.specs.Calls.Files.{NamedBytes}
+use Rattle.p11_store.specs.Calls.Files.{NamedBytes}
 
 -- a machine, the files of its store, and the text of the last answers
 pub record Kept : Type 0 where

@@ -2,11 +2,11 @@
 use Rattle.std.specs.Prelude.{ℤ, ◌≡◌, ◌<◌, ◌≤◌, ◌⊎◌, ℕ, true, false, List, ◌∷◌, ◌++◌, length, None, Some}
 use Rattle.p11_lines.specs.declared.answer.Answer.{Answer}
 use Rattle.p11_lines.specs.AnswerText.{text_of}
-use Rattle.p11_panel.specs.Calls.Files.{NamedBytes, store_of, with_file}
+use Rattle.p11_store.specs.Calls.Files.{NamedBytes, store_of, with_file}
 use Rattle.p11_panel.specs.Script.{ended_lines, script_lines}
 use Rattle.p11_panel.specs.Session.{SessionState, with_store, LineDoes, Runs, texts_of}
 use Rattle.p11_panel.specs.Calls.Sizes.{is_size}
-use Rattle.p11_panel.specs.Store.{Puts}
+use Rattle.p11_store.specs.Store.{Puts}
 use Rattle.p11_c.specs.Calls.{Lent, holding, told_of, unrefused}
 use Rattle.p11_c.specs.Held.{Kept, Held, new_kept}
 use Rattle.p11_c.specs.Rows.{Fits, IsRow, IsNoRow, file_of}

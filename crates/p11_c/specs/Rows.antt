@@ -1,7 +1,7 @@
 -- Files as one row of bytes: for each the length of its name, its name, the length of its bytes, its bytes.
 use Rattle.std.specs.Prelude.{◌≡◌, ℕ, ◌/◌, ◌%◌, ◌^◌, ◌<◌, List, [], ◌∷◌, ◌++◌, length}
 use Rattle.std.specs.List.{All, flat_map}
-use Rattle.p11_panel.specs.Calls.Files.{NamedBytes}
+use Rattle.p11_store.specs.Calls.Files.{NamedBytes}
 
 -- a file, by its name
 abbrev pub file_of : List ℕ → List ℕ → NamedBytes

@@ -1,7 +1,7 @@
 // Files as one row of bytes.
 ghost use Rattle.std.specs.Prelude.{◌≡◌, ◌≤◌, ◌<◌, ◌^◌, ◌++◌, length, drop, MatchOption, IfSome, IfOk, IfErr, OnOk};
 ghost use Rattle.std.specs.Prelude.{◌⊎◌};
-ghost use Rattle.p11_panel.specs.Calls.Files.{NamedBytes};
+ghost use Rattle.p11_store.specs.Calls.Files.{NamedBytes};
 ghost use Rattle.p11_c.specs.Rows.{number_bytes, counted, row_of, Follows, FollowsFile, HasNoFile, HasNoBytes};
 ghost use Rattle.p11_c.specs.Rows.{IsRow, IsNoRow, RowsReadBack};
 

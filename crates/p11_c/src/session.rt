@@ -2,7 +2,7 @@
 ghost use Rattle.std.specs.Prelude.{◌≡◌, ◌<◌, ◌⊎◌, ℕ, List, [], IfOk, IfErr};
 ghost use Rattle.std.specs.List.{All};
 ghost use Rattle.p11_cpu.specs.Operator.{new_machine};
-ghost use Rattle.p11_panel.specs.Calls.Files.{store_of};
+ghost use Rattle.p11_store.specs.Calls.Files.{store_of};
 ghost use Rattle.p11_panel.specs.Script.{script_lines};
 ghost use Rattle.p11_panel.specs.Session.{with_store, LineDoes, Did};
 ghost use Rattle.p11_c.specs.Calls.{PlaysOver, SessionGives, Refuses, HandsOut, asked_for, lent};

@@ -2,7 +2,7 @@
 ghost use Rattle.std.specs.Prelude.{◌≡◌, ◌+◌, ◌∷◌, ◌++◌, [], ◌<◌, None, Some, OnOk, OnErr, IfOk, IsTrue, ◌↔◌};
 ghost use Rattle.std.specs.Prelude.{option_copied};
 ghost use Rattle.std.specs.List.{All};
-ghost use Rattle.p11_panel.specs.Calls.Files.{bytes_under, with_file};
+ghost use Rattle.p11_store.specs.Calls.Files.{bytes_under, with_file};
 ghost use Rattle.p11_c.specs.Calls.{unrefused};
 ghost use Rattle.p11_c.specs.Rows.{Fits, file_of};
 
@@ -19,7 +19,7 @@ pub(crate) struct StoredFile<A: Allocator = Global> {
 }
 
 impl<A: Allocator> Model for StoredFile<A> {
-    ghost use Rattle.p11_panel.specs.Calls.Files.{NamedBytes};
+    ghost use Rattle.p11_store.specs.Calls.Files.{NamedBytes};
 
     ghost Value = { NamedBytes };
 
@@ -94,7 +94,7 @@ pub(crate) struct RowStore<L: Ledger, A: Allocator = Global> {
 
 impl<L: Ledger, A: Allocator> Model for RowStore<L, A> {
     ghost use Rattle.std.specs.List.{All};
-    ghost use Rattle.p11_panel.specs.Calls.Files.{MemoryFiles};
+    ghost use Rattle.p11_store.specs.Calls.Files.{MemoryFiles};
     ghost use Rattle.p11_c.specs.Rows.{Fits};
 
     ghost Value = { MemoryFiles };
@@ -169,7 +169,7 @@ pub(crate) fn fits(name: &[u8], bytes: &[u8]) -> bool
 }
 
 impl<L: Ledger, A: Allocator + Copy> Store for RowStore<L, A> {
-    ghost use Rattle.p11_panel.specs.Calls.Files.{store_of};
+    ghost use Rattle.p11_store.specs.Calls.Files.{store_of};
 
     ghost state = { λ s. store_of s };
 

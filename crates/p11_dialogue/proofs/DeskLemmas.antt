@@ -7,8 +7,8 @@ use Rattle.std.proofs.KnownBytes.{Appends-nil, Appends-trans}
 use Rattle.p11_lines.specs.declared.answer.Answer.{Answer}
 use Rattle.p11_lines.specs.declared.line.Line.{Line}
 use Rattle.p11_panel.specs.Session.{SessionState, Obeys}
-use Rattle.p11_panel.specs.declared.store.StoreError.{StoreError}
-use Rattle.p11_panel.specs.Store.{StoreState, Fetches, FailsToFetch}
+use Rattle.p11_store.specs.declared.store.StoreError.{StoreError}
+use Rattle.p11_store.specs.Store.{StoreState, Fetches, FailsToFetch}
 use Rattle.p11_dialogue.specs.Deeds.{Deed, Tried, Asked, AsksFor, Happens, Happen, Fronts, WrittenUnless, Scene, Dialogue, ended, recorded, recorded_of, typed_by, typed_in}
 
 pub one_more : {A : Type 0} (deeds : List (Deed A)) (deed : Deed A) (s s' s'' : SessionState) → Happen deeds s s' → Happens deed s' s'' → Happen (deeds ++ deed ∷ []) s s''

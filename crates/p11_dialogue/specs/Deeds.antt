@@ -8,10 +8,10 @@ use Rattle.p11_lines.specs.declared.answer.Answer.TheVariants as answers
 use Rattle.p11_lines.specs.declared.line.Line.{Line}
 use Rattle.p11_lines.specs.declared.line.Line.TheVariants as lines
 use Rattle.p11_lines.specs.Calls.LineText.{line_text}
-use Rattle.p11_panel.specs.declared.store.StoreError.{StoreError}
+use Rattle.p11_store.specs.declared.store.StoreError.{StoreError}
 use Rattle.p11_cpu.specs.State.{State}
 use Rattle.p11_panel.specs.Session.{SessionState, with_store, Obeys}
-use Rattle.p11_panel.specs.Store.{StoreState, Fetches, FailsToFetch}
+use Rattle.p11_store.specs.Store.{StoreState, Fetches, FailsToFetch}
 
 -- a line of the record, with its end
 abbrev pub ended : {A : Type 0} → Line A → List ℕ

@@ -2,7 +2,7 @@
 ghost use Rattle.std.specs.Prelude.{◌≡◌, ◌+◌, ◌<◌, None};
 
 use crate::replacing::replace_file;
-use p11_panel::{Refusals, Store, StoreError};
+use p11_store::{Refusals, Store, StoreError};
 use std::alloc::Allocator;
 use std::fs::File;
 use std::io;

@@ -5,7 +5,6 @@ pub mod ConfinedRuns
 pub mod OutcomeLemmas
 pub mod FlushLemmas
 pub mod LoadLemmas
-pub mod FileLemmas
 pub mod BufferLemmas
 pub mod ScriptLemmas
 pub mod SessionLemmas

@@ -10,7 +10,6 @@ pub mod Play
 pub mod Confinement
 pub mod Script
 pub mod Readers
-pub mod Store
 pub mod Session
 pub mod Kept
 pub mod Calls

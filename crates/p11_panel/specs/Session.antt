@@ -16,9 +16,9 @@ use Rattle.p11_lines.specs.Written.{AppendsFront}
 use Rattle.p11_lines.specs.Writers.{WriterState, Writes}
 use Rattle.p11_cpu.specs.State.{State}
 use Rattle.p11_panel.specs.Refusals.{IsRefused}
-use Rattle.p11_panel.specs.Store.{StoreState, Fetches, FailsToFetch, Puts, FailsToPut}
-use Rattle.p11_panel.specs.declared.store.StoreError.{StoreError}
-use Rattle.p11_panel.specs.declared.store.StoreError.TheVariants as errors
+use Rattle.p11_store.specs.Store.{StoreState, Fetches, FailsToFetch, Puts, FailsToPut}
+use Rattle.p11_store.specs.declared.store.StoreError.{StoreError}
+use Rattle.p11_store.specs.declared.store.StoreError.TheVariants as errors
 use Rattle.p11_panel.specs.declared.command.Command.{Command}
 use Rattle.p11_panel.specs.declared.command.Command.TheVariants as commands
 use Rattle.p11_panel.specs.Commands.{Acts}

@@ -6,8 +6,8 @@ ghost use Rattle.p11_panel.specs.Session.{Asks, Obeys, OnFile, SavesFile, Keeps}
 
 use crate::command::Command;
 use crate::panel::Panel;
-use crate::store::{Store, StoreError};
 use p11_lines::{Answer, Bytes, Fault, Line, parse_line};
+use p11_store::{Store, StoreError};
 use std::alloc::Allocator;
 
 /// Whether a line is blank or a remark.

@@ -10,7 +10,6 @@ mod keys;
 mod laws;
 mod line_buffer;
 mod loading;
-mod memory_store;
 mod panel;
 mod playing;
 mod range;
@@ -19,7 +18,6 @@ mod run;
 mod script;
 mod shown;
 mod source;
-mod store;
 
 pub use answering::obey;
 pub use command::Command;
@@ -29,14 +27,13 @@ pub use laws::{
     a_command_has_one_outcome, a_list_has_one_outcome, a_run_has_one_outcome, flush_shows_nothing,
     the_number_of_lines_shows_nothing,
 };
-pub use memory_store::MemoryStore;
 pub use p11_lines::{
     Answer, Bytes, Devices, Fault, Line, ManagementRegisters, Mark, NoMemory, Registers, Sink,
     StdWriter, StopReason, Words, line_of, parse_line,
 };
+pub use p11_store::{MemoryStore, Refusals, Store, StoreError};
 pub use p11_unibus::{BusDevices, DiskRegisters, DriveShown};
 pub use panel::Panel;
 pub use playing::play;
 pub use script::{SessionFault, session};
 pub use source::{Source, StdReader};
-pub use store::{Refusals, Store, StoreError};

@@ -12,8 +12,8 @@ use crate::answering::do_line;
 use crate::line_buffer::LineBuffer;
 use crate::panel::Panel;
 use crate::source::Source;
-use crate::store::Store;
 use p11_lines::{Answer, Broken, Fault, Sink, put_answer};
+use p11_store::Store;
 use std::alloc::Allocator;
 use thiserror::Error;
 

@@ -68,7 +68,7 @@ fn bytes_under<'a>(files: &'a [StoredFile], name: &[u8]) -> Option<&'a [u8]> {
 
 impl<L: Ledger> Store for Shelf<L> {
     ghost use Rattle.std.specs.Prelude.{None};
-    ghost use Rattle.p11_panel.specs.Store.{StoreState};
+    ghost use Rattle.p11_store.specs.Store.{StoreState};
 
     ghost state = { λ s. record { files = None; refusals = s.refusals; calls = None } };
 

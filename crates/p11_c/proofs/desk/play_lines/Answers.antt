@@ -1,5 +1,5 @@
 use Rattle.std.proofs.Common.{Global, List, sym, subst}
-use Rattle.p11_panel.specs.Calls.Files.{NamedBytes, MemoryFiles}
+use Rattle.p11_store.specs.Calls.Files.{NamedBytes, MemoryFiles}
 use Rattle.p11_c.specs.Held.{kept_of}
 use Rattle.p11_c.specs.HeldCalls.{LinesEnd}
 use Rattle.p11_c.proofs.desk.play_lines.Goals as goal

@@ -1,6 +1,6 @@
 use Rattle.std.proofs.Common.{◌≡◌, None, take}
 use Rattle.std.specs.Prelude.{option_copied}
-use Rattle.p11_panel.specs.Calls.Files.{bytes_under}
+use Rattle.p11_store.specs.Calls.Files.{bytes_under}
 use Rattle.p11_c.proofs.store.find.Given as goal
 
 abbrev pub invariant-loop-file : goal.invariant-loop-file

@@ -1,5 +1,5 @@
 use Rattle.std.proofs.Common.{rules, List, ap}
-use Rattle.p11_panel.specs.Calls.Files.{NamedBytes}
+use Rattle.p11_store.specs.Calls.Files.{NamedBytes}
 use Rattle.p11_c.specs.Held.{Kept, kept_of}
 use Rattle.p11_c.proofs.HeldLemmas.{file_put}
 use Rattle.p11_c.proofs.desk.Desk.put_file.Goals as goal

@@ -1,5 +1,5 @@
 use Rattle.std.proofs.Common.{ap, refl}
-use Rattle.p11_panel.specs.Calls.Files.{MemoryFiles}
+use Rattle.p11_store.specs.Calls.Files.{MemoryFiles}
 use Rattle.p11_c.proofs.StoreLemmas.{added}
 use Rattle.p11_c.proofs.store.RowStoreStore.put.Goals as goal
 

@@ -1,7 +1,7 @@
 -- Files in memory.
 use Rattle.std.specs.Prelude.{ℕ, List, [], ◌∷◌, ◌++◌, Option, None, Some, if◌then◌else◌}
 use Rattle.std.specs.Str.{bytes_eq}
-use Rattle.p11_panel.specs.Store.{StoreState}
+use Rattle.p11_store.specs.Store.{StoreState}
 
 pub record NamedBytes : Type 0 where
   pub name : List ℕ

@@ -1,8 +1,8 @@
 -- A store of files, as far as contracts know it, and what it does when it is asked.
 use Rattle.std.specs.Prelude.{◌≡◌, ◌≢◌, ℕ, ◌+◌, Bool, true, false, List, [], ◌∷◌, Option, None, Some, ⊤}
 use Rattle.p11_lines.specs.Writers.{with_calls}
-use Rattle.p11_panel.specs.declared.store.StoreError.{StoreError}
-use Rattle.p11_panel.specs.declared.store.StoreError.TheVariants.{Refused, NoMemory}
+use Rattle.p11_store.specs.declared.store.StoreError.{StoreError}
+use Rattle.p11_store.specs.declared.store.StoreError.TheVariants.{Refused, NoMemory}
 
 -- a call: whether a file was put or asked for, its name, and whether that was refused
 pub record StoreCall : Type 0 where

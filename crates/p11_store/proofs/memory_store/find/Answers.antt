@@ -1,7 +1,7 @@
 use Rattle.std.proofs.Common.{sym, ap, ◌∙◌, arith}
-use Rattle.p11_panel.specs.Calls.Files.{NamedBytes}
-use Rattle.p11_panel.proofs.FileLemmas.{found, missed, nothing_found}
-use Rattle.p11_panel.proofs.memory_store.find.Goals as goal
+use Rattle.p11_store.specs.Calls.Files.{NamedBytes}
+use Rattle.p11_store.proofs.FileLemmas.{found, missed, nothing_found}
+use Rattle.p11_store.proofs.memory_store.find.Goals as goal
 
 pub returns-then-eq : goal.returns-then-eq
 returns-then-eq g c =

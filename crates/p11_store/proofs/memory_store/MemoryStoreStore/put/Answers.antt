@@ -1,7 +1,7 @@
-use Rattle.p11_panel.proofs.FileLemmas.{added}
-use Rattle.p11_panel.proofs.memory_store.MemoryStoreStore.put.Goals as goal
+use Rattle.p11_store.proofs.FileLemmas.{added}
+use Rattle.p11_store.proofs.memory_store.MemoryStoreStore.put.Goals as goal
 use Rattle.std.proofs.Common.{ap, refl}
-use Rattle.p11_panel.specs.Calls.Files.{MemoryFiles}
+use Rattle.p11_store.specs.Calls.Files.{MemoryFiles}
 
 pub returns-in-Ok-clause-ok : goal.returns-in-Ok-clause-ok
 returns-in-Ok-clause-ok g c =

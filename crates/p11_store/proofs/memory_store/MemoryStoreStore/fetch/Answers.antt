@@ -1,5 +1,5 @@
 use Rattle.std.proofs.Common.{rules, refl}
-use Rattle.p11_panel.proofs.memory_store.MemoryStoreStore.fetch.Goals as goal
+use Rattle.p11_store.proofs.memory_store.MemoryStoreStore.fetch.Goals as goal
 
 -- the file is there
 pub returns-in-Err-clause-err : goal.returns-in-Err-clause-err

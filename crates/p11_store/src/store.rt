@@ -16,8 +16,8 @@ pub enum StoreError {
 /// Files by their names. Contracts know of it its files and its calls, each where the implementation tells them, and how
 /// often it has refused.
 pub trait Store {
-    ghost use Rattle.p11_panel.specs.Store.{StoreState, Fetches, FailsToFetch, Puts, FailsToPut};
-    ghost use Rattle.p11_panel.specs.declared.store.StoreError.TheVariants.{Refused};
+    ghost use Rattle.p11_store.specs.Store.{StoreState, Fetches, FailsToFetch, Puts, FailsToPut};
+    ghost use Rattle.p11_store.specs.declared.store.StoreError.TheVariants.{Refused};
 
     ghost state: { Self → StoreState };
 

@@ -1,6 +1,6 @@
 // A store of files in memory.
 ghost use Rattle.std.specs.Prelude.{◌≡◌, ◌+◌, ◌∷◌, ◌++◌, [], ◌<◌, None, Some, OnOk, OnErr, option_copied};
-ghost use Rattle.p11_panel.specs.Calls.Files.{bytes_under, with_file};
+ghost use Rattle.p11_store.specs.Calls.Files.{bytes_under, with_file};
 
 use crate::store::{Refusals, Store, StoreError};
 use p11_lines::Bytes;
@@ -16,7 +16,7 @@ struct File<A: Allocator> {
 }
 
 impl<A: Allocator> Model for File<A> {
-    ghost use Rattle.p11_panel.specs.Calls.Files.{NamedBytes};
+    ghost use Rattle.p11_store.specs.Calls.Files.{NamedBytes};
 
     ghost Value = { NamedBytes };
 
@@ -35,7 +35,7 @@ pub struct MemoryStore<L: Ledger, A: Allocator = Global> {
 }
 
 impl<L: Ledger, A: Allocator> Model for MemoryStore<L, A> {
-    ghost use Rattle.p11_panel.specs.Calls.Files.{MemoryFiles};
+    ghost use Rattle.p11_store.specs.Calls.Files.{MemoryFiles};
 
     ghost Value = { MemoryFiles };
 
@@ -94,7 +94,7 @@ impl<L: Ledger, A: Allocator + Copy> MemoryStore<L, A> {
 }
 
 impl<L: Ledger, A: Allocator + Copy> Store for MemoryStore<L, A> {
-    ghost use Rattle.p11_panel.specs.Calls.Files.{store_of};
+    ghost use Rattle.p11_store.specs.Calls.Files.{store_of};
 
     ghost state = { λ s. store_of s };
 

@@ -1,6 +1,6 @@
 use Rattle.std.proofs.Common.{◌≡◌, ◌≤◌, None, length, take}
-use Rattle.p11_panel.specs.Calls.Files.{bytes_under}
-use Rattle.p11_panel.proofs.memory_store.find.Given as goal
+use Rattle.p11_store.specs.Calls.Files.{bytes_under}
+use Rattle.p11_store.proofs.memory_store.find.Given as goal
 
 abbrev pub invariant-loop-left : goal.invariant-loop-left
 invariant-loop-left g l = record {

@@ -4,7 +4,7 @@ use Rattle.std.proofs.lemmas.Bool.{cases_Bool}
 use Rattle.std.proofs.lemmas.Slice.Eq.{bytes_eq-Decides}
 use Rattle.std.specs.Str.{bytes_eq}
 use Rattle.std.proofs.lemmas.List.{take_more}
-use Rattle.p11_panel.specs.Calls.Files.{NamedBytes, unless_named, bytes_under}
+use Rattle.p11_store.specs.Calls.Files.{NamedBytes, unless_named, bytes_under}
 
 pub bytes_under-push : (there : Option (List ℕ)) (files : List NamedBytes) (file : NamedBytes) (name : List ℕ) → bytes_under there (files ++ file ∷ []) name ≡ unless_named file name (bytes_under there files name)
 unfolding bytes_under
