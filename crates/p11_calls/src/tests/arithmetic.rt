@@ -12,44 +12,43 @@ fn codes(text: &str) -> Codes {
     }
 }
 
-fn pair(high: u16, low: u16) -> Pair {
-    Pair { high, low }
-}
-
-/// What a division that fits leaves.
-fn divided(quotient: u16, remainder: u16, text: &str) -> Quotient {
+/// What a division leaves, with quotient and remainder where it fits.
+fn left(fitting: Option<(u16, u16)>, text: &str) -> Quotient {
     let codes = codes(text);
+    let (quotient, remainder) = fitting.unwrap_or((0, 0));
     Quotient {
-        fits: true,
+        fits: fitting.is_some(),
         quotient,
         remainder,
         codes,
     }
 }
 
-/// What a division that doesn't fit leaves.
-fn undivided(text: &str) -> Quotient {
-    let codes = codes(text);
-    Quotient {
-        fits: false,
-        quotient: 0,
-        remainder: 0,
-        codes,
-    }
-}
+const SEVEN: (u16, u16) = (0, 7);
+
+const MINUS_SEVEN: (u16, u16) = (0o177777, 0o177771);
+
+/// Dividends in two words and divisors, quotients and remainders where they fit, and codes.
+static DIVISIONS: [((u16, u16), u16, Option<(u16, u16)>, &str); 8] = [
+    (SEVEN, 0o177776, Some((0o177775, 1)), "N"),
+    (MINUS_SEVEN, 2, Some((0o177775, 0o177777)), "N"),
+    (MINUS_SEVEN, 0o177776, Some((3, 0o177777)), ""),
+    (SEVEN, 8, Some((0, 7)), "Z"),
+    (SEVEN, 0, None, "VC"),
+    ((0, 0o100000), 1, None, "V"),
+    ((0o177777, 0o100000), 1, Some((0o100000, 0)), "N"),
+    ((0o100000, 0), 0o177777, None, "V"),
+];
 
 #[test]
 fn quotients(rt: HostRuntime) {
-    let seven = pair(0, 7);
-    let minus_seven = pair(0o177777, 0o177771);
     one_quotient();
     carry_rules();
-    assert_eq!(rt; div(seven, 0o177776), divided(0o177775, 1, "N"));
-    assert_eq!(rt; div(minus_seven, 2), divided(0o177775, 0o177777, "N"));
-    assert_eq!(rt; div(minus_seven, 0o177776), divided(3, 0o177777, ""));
-    assert_eq!(rt; div(seven, 8), divided(0, 7, "Z"));
-    assert_eq!(rt; div(seven, 0), undivided("VC"));
-    assert_eq!(rt; div(pair(0, 0o100000), 1), undivided("V"));
-    assert_eq!(rt; div(pair(0o177777, 0o100000), 1), divided(0o100000, 0, "N"));
-    assert_eq!(rt; div(pair(0o100000, 0), 0o177777), undivided("V"));
+    for &((high, low), divisor, fitting, text) in &DIVISIONS {
+        let quotient = div(Pair { high, low }, divisor);
+        assert!(rt;
+            quotient == left(fitting, text),
+            "by {divisor:o}: {quotient:?}"
+        );
+    }
 }

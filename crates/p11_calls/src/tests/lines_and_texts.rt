@@ -1,5 +1,6 @@
 // Lines that are read and written. What is no line is shown by sessions.
-use p11_lines::{Fault, line_of, parse_line, text_reads_back};
+use p11_lines::{Fault, Line, line_of, parse_line, text_reads_back};
+use std::alloc::Global;
 use std::test::Fail;
 
 /// A line as it may be spelled, and its own text.
@@ -36,14 +37,34 @@ static LINES: [(&[u8], &[u8]); 27] = [
     (b"load load", b"load load"),
 ];
 
+/// Whether this is a line's own text.
+fn is_text_of(alloc: Global, text: &[u8], line: &Line) -> Result<bool, Fault> {
+    Ok(line_of(alloc, line)?.as_slice() == text)
+}
+
+/// Whether this is a line's own text, and is read as the same line.
+fn is_own_text(alloc: Global, text: &[u8], line: &Line) -> Result<bool, Fault> {
+    let is_same = parse_line(alloc, text)? == *line;
+    Ok(is_same && is_text_of(alloc, text, line)?)
+}
+
+/// Whether a text is a line whose own text is the other.
+fn is_spelled(alloc: Global, text: &[u8], back: &[u8]) -> Result<bool, Fault> {
+    let line = parse_line(alloc, text)?;
+    text_reads_back(&line);
+    is_own_text(alloc, back, &line)
+}
+
 #[test]
 fn each_line_is_read_and_written(rt: HostRuntime) -> Result<(), Fail> {
     for &(text, back) in &LINES {
-        let line = parse_line(rt.alloc(), text)?;
-        text_reads_back(&line);
-        assert!(rt; line == parse_line(rt.alloc(), back)?);
-        assert_eq!(rt; line_of(rt.alloc(), &line)?.as_slice(), back);
+        assert!(rt; is_spelled(rt.alloc(), text, back)?, "{back:?}");
     }
+    Ok(())
+}
+
+#[test]
+fn a_fault_has_its_text(rt: HostRuntime) -> Result<(), Fail> {
     assert_eq!(rt;
         format!(in rt.alloc(); "{}", Fault::BadLine)?.as_str(),
         "the line is not a command"

@@ -1,6 +1,6 @@
 // Lines and texts where each growth is refused in turn.
 use linked_list_allocator::LocalHeap;
-use p11_lines::{Fault, line_of, parse_line};
+use p11_lines::{Fault, Line, line_of, parse_line};
 use std::alloc::{AllocError, Global};
 use std::process::Abort;
 use std::test::Fail;
@@ -42,49 +42,74 @@ fn ballast(alloc: Global, heap: &LocalHeap) -> Result<Vec<Vec<u8, &LocalHeap>>, 
     Ok(pieces)
 }
 
+/// A line's own text.
+fn own_text<'h>(
+    heap: &'h LocalHeap,
+    line: &Line<&'h LocalHeap>,
+) -> Result<Vec<u8, &'h LocalHeap>, Fault> {
+    Ok(line_of(heap, line)?)
+}
+
+/// The own text of the line that a text is read as.
+fn text_of<'h>(heap: &'h LocalHeap, text: &[u8]) -> Result<Vec<u8, &'h LocalHeap>, Fault> {
+    let line = parse_line(heap, text)?;
+    own_text(heap, &line)
+}
+
 /// Reads a line and writes it again, if there is memory.
 fn read_and_written(rt: &impl Abort, heap: &LocalHeap, text: &[u8]) -> bool {
-    match parse_line(heap, text) {
-        Ok(line) => match line_of(heap, &line) {
-            Ok(back) => {
-                assert_eq!(rt; back.as_slice(), text);
-                true
-            }
-            Err(_) => false,
-        },
+    match text_of(heap, text) {
+        Ok(back) => {
+            assert!(rt; back.as_slice() == text, "{text:?}");
+            true
+        }
         Err(fault) => {
-            assert_eq!(rt; fault, Fault::NoMemory);
+            assert!(rt; fault == Fault::NoMemory, "{text:?}");
             false
         }
     }
 }
 
+/// How many pieces a full heap gives back until a line and its text fit.
+fn pieces_wanted(rt: &impl Abort, alloc: Global, text: &[u8]) -> Result<Option<u32>, AllocError> {
+    let heap = LocalHeap::new(alloc, 4_096)?;
+    let mut full = ballast(alloc, &heap)?;
+    for pieces in 0..100 {
+        if read_and_written(rt, &heap, text) {
+            return Ok(Some(pieces));
+        }
+        let _ = full.pop();
+    }
+    Ok(None)
+}
+
 /// A full heap gives its memory back piece by piece, until the line and its text fit.
 #[test]
 fn each_growth_is_refused_in_turn(rt: HostRuntime) -> Result<(), Fail> {
-    for text in HOLDING {
-        let heap = LocalHeap::new(rt.alloc(), 4_096)?;
-        let mut full = ballast(rt.alloc(), &heap)?;
-        let mut wanted = None;
-        for pieces in 0..100 {
-            if read_and_written(&rt, &heap, text) {
-                wanted = Some(pieces);
-                break;
-            }
-            let _ = full.pop();
-        }
+    for &text in &HOLDING {
+        let wanted = pieces_wanted(&rt, rt.alloc(), text)?;
         assert!(rt; wanted.is_some_and(|pieces| pieces > 0), "{text:?}");
     }
     Ok(())
+}
+
+/// The fault of a text that is no line.
+fn fault_of(heap: &LocalHeap, text: &[u8]) -> Option<Fault> {
+    parse_line(heap, text).err()
+}
+
+/// What takes no memory is read with any heap.
+fn read_free(rt: &impl Abort, heap: &LocalHeap) {
+    for &(text, fault) in &FREE {
+        assert!(rt; fault_of(heap, text) == fault, "{text:?}");
+    }
 }
 
 #[test]
 fn what_holds_nothing_takes_no_memory(rt: HostRuntime) -> Result<(), Fail> {
     let heap = LocalHeap::new(rt.alloc(), 4_096)?;
     let full = ballast(rt.alloc(), &heap)?;
-    for (text, fault) in FREE {
-        assert_eq!(rt; parse_line(&heap, text).err(), fault, "{text:?}");
-    }
+    read_free(&rt, &heap);
     drop(full);
     Ok(())
 }

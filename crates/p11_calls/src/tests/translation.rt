@@ -25,26 +25,31 @@ fn unit_with(rt: &impl process::Abort, words: &[(u32, u16)]) -> Kt11 {
     unit
 }
 
+/// Whether an address is a register's, which is read and written. No other is.
+fn answers(rt: &impl process::Abort, unit: &mut Kt11, address: u32) -> bool {
+    let is_register = Register::at(address).is_some();
+    assert!(rt;
+        unit.read(address).is_some() == is_register && unit.write(address, 0) == is_register,
+        "{address:o}"
+    );
+    is_register
+}
+
 #[test]
 fn thirty_four_addresses_answer(rt: HostRuntime) {
     let mut unit = Kt11::new();
-    let mut answers = 0_u32;
+    let mut registers = 0_u32;
     for address in 0..0o1000000 {
-        if Register::at(address).is_some() {
-            assert!(rt;
-                unit.read(address).is_some() && unit.write(address, 0),
-                "{address:o}"
-            );
-            assert!(rt; answers < 34);
-            answers += 1;
-        } else {
-            assert!(rt;
-                unit.read(address).is_none() && !unit.write(address, 0),
-                "{address:o}"
-            );
+        if answers(&rt, &mut unit, address) {
+            assert!(rt; registers < 34);
+            registers += 1;
         }
     }
-    assert_eq!(rt; answers, 34);
+    assert_eq!(rt; registers, 34);
+}
+
+#[test]
+fn pages_and_status_have_registers(rt: HostRuntime) {
     for first in [KERNEL_PDR, KERNEL_PAR, USER_PDR, USER_PAR] {
         for number in 0..8 {
             assert!(rt;
