@@ -58,8 +58,6 @@ fn run(rt: &HostRuntime) -> Result<(), Cause> {
 }
 
 /// The words of the command line, the program's name first.
-// Out of line, so that the loop over quiet turns, which the linker puts behind this, lies well (bench/count shows it).
-#[inline(never)]
 fn words(rt: &HostRuntime) -> Result<Vec<String>, Cause> {
     let mut words = Vec::new(rt.alloc());
     match env::args(rt) {
