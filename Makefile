@@ -26,7 +26,7 @@ programs := $(notdir $(patsubst %/src/main.rt,%,$(wildcard crates/*/src/main.rt)
 kit := $(filter-out $(crates) %:,$(shell sed '/^\#/d' crates.txt))
 # What the processor stands on goes first, and then the longest chain: these others are proved with what that leaves of the
 # cores. The large crates get as many jobs as rt finds room for, and each other crate one.
-aside := p11_tape p11_arguments p11_lines
+aside := p11_tape p11_arguments p11_lines p11_store p11_files
 large := p11_decode p11_overlay p11_rk11 p11_unibus p11_lines p11_cpu p11_panel
 verb = $(if $(filter $@,$(programs)),run -- --help,lib $(if $(filter $@,$(large)),,--jobs 1))
 behind = $(if $(filter $@,$(aside)),nice -n 10)
