@@ -6,7 +6,8 @@ use Rattle.p11_alu.specs.declared.size.Size.{Size}
 use Rattle.p11_alu.specs.declared.size.Size.TheVariants.{Word, Byte}
 use Rattle.p11_alu.specs.Numbers.{modulus, sign_weight, val, sval, wrapped}
 use Rattle.p11_alu.specs.declared.codes.Codes.{Codes}
-use Rattle.p11_alu.specs.Results.{flag, result_with, neg_of, adc_of, sbc_of}
+use Rattle.p11_alu.specs.Results.{result_with, neg_of, adc_of, sbc_of}
+use Rattle.p11_words.specs.Bits.{flag}
 
 -- a result and its codes, part by part
 same_result : (d e : ℕ) (n n' z z' v v' c c' : Bool) → d ≡ e → n ≡ n' → z ≡ z' → v ≡ v' → c ≡ c' → ◌≡◌ {A = ℕ × Codes} (d, record { n = n; z = z; v = v; c = c }) (e, record { n = n'; z = z'; v = v'; c = c' })

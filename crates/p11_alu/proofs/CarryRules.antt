@@ -5,7 +5,8 @@ use Rattle.std.proofs.lemmas.Bool.Decides.{nat_tests}
 use Rattle.p11_alu.specs.declared.size.Size.{Size}
 use Rattle.p11_alu.specs.declared.size.Size.TheVariants.{Word, Byte}
 use Rattle.p11_alu.specs.Numbers.{modulus, sign_weight, val, sval, wrapped}
-use Rattle.p11_alu.specs.Results.{flag, result_of, result_with, neg_of, adc_of, sbc_of}
+use Rattle.p11_alu.specs.Results.{result_of, result_with, neg_of, adc_of, sbc_of}
+use Rattle.p11_words.specs.Bits.{flag}
 
 -- two results with one number, whose V and C are equal
 same_rule : (size : Size) (r : ℕ) (v c : Bool) (signed unsigned : ℤ) → r ≡ wrapped (modulus size) unsigned → v ≡ not (int_eq signed (sval size (wrapped (modulus size) unsigned))) → c ≡ not (int_eq unsigned (pos (wrapped (modulus size) unsigned))) → result_with size r v c ≡ result_of size signed unsigned

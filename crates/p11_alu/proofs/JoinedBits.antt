@@ -5,7 +5,7 @@ use Rattle.std.proofs.lemmas.Nat.{or_shifted}
 use Rattle.p11_alu.specs.declared.size.Size.{Size}
 use Rattle.p11_alu.specs.declared.size.Size.TheVariants.{Word, Byte}
 use Rattle.p11_alu.specs.Numbers.{modulus, sign_weight, val, sval}
-use Rattle.p11_alu.specs.Results.{flag}
+use Rattle.p11_words.specs.Bits.{flag}
 use Rattle.p11_alu.specs.Shifts.{sign_of}
 
 -- the sign bit says that the signed value is below 0

@@ -1,3 +1,4 @@
+-- Lemmas on arithmetic: carries and overflow, products and quotients, and shifts at once and one by one.
 pub mod Carries
 pub mod CarryRules
 pub mod JoinedBits

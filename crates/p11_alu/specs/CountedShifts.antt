@@ -60,10 +60,5 @@ unfoldable pub ashc_of : Pair → ℕ → Pair × Codes
 ashc_of pair count =
     let s = shifted_by 2147483648 (count_of count) (number_of pair) in (
       pair_of s.value,
-      record {
-        n = int_lt (twos_complement 2147483648 s.value) (pos 0);
-        z = s.value == 0;
-        v = s.changed;
-        c = s.out;
-      },
+      record { n = int_lt (twos_complement 2147483648 s.value) (pos 0); z = s.value == 0; v = s.changed; c = s.out },
     )

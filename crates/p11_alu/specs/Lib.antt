@@ -1,3 +1,4 @@
+-- Arithmetic with condition codes: sums, products, shifts and pairs.
 pub mod CountedShifts
 pub mod Numbers
 pub mod Pairs

@@ -17,23 +17,13 @@ unfoldable pub mul_of : ℕ → ℕ → Pair × Codes
 mul_of a b =
     let product = sval Word a *ℤ sval Word b in (
       pair_of (wrapped 4294967296 product),
-      record {
-        n = int_lt product (pos 0);
-        z = int_eq product (pos 0);
-        v = false;
-        c = not (fits_word product);
-      },
+      record { n = int_lt product (pos 0); z = int_eq product (pos 0); v = false; c = not (fits_word product) },
     )
 
 -- No quotient is stored: V set, N and Z 0.
 abbrev pub answer_without : Bool → Quotient
 answer_without c =
-    record {
-      fits = false;
-      quotient = 0;
-      remainder = 0;
-      codes = record { n = false; z = false; v = true; c = c };
-    }
+    record { fits = false; quotient = 0; remainder = 0; codes = record { n = false; z = false; v = true; c = c } }
 
 -- What DIV answers where q and r are the quotient and the remainder: N and Z by the quotient,
 -- V where it fits no word, C cleared.

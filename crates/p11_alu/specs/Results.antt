@@ -1,6 +1,7 @@
 -- Results of sums and differences, and condition codes by whole numbers.
 use Rattle.std.specs.Prelude.{ℕ, ◌-◌, ◌==◌, Bool, not, ◌&&◌, false, ℤ, pos, ◌+ℤ◌, ◌-ℤ◌, int_lt, if◌then◌else◌}
 use Rattle.std.specs.Ordering.{int_eq}
+use Rattle.p11_words.specs.Bits.{flag}
 use Rattle.p11_alu.specs.declared.size.Size.{Size}
 use Rattle.p11_alu.specs.declared.size.Size.TheVariants.{Word}
 use Rattle.p11_alu.specs.declared.codes.Codes.{Codes}
@@ -30,10 +31,6 @@ result_with size r v c = (r, record { n = int_lt (sval size r) (pos 0); z = r ==
 -- The same result, with C as it was before the instruction.
 abbrev pub with_carry : Bool → ℕ × Codes → ℕ × Codes
 with_carry c (r, codes) = (r, record codes { c = c })
-
--- a flag as a number: its weight or 0
-abbrev pub flag : Bool → ℕ → ℕ
-flag is_set weight = if is_set then weight else 0
 
 -- A result that clears V, with C as handed in (MOV, BIT, BIC, BIS, XOR, COM, CLR, TST, SXT, MFPI,
 -- MTPI).

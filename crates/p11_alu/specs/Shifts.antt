@@ -6,7 +6,8 @@ use Rattle.p11_alu.specs.declared.direction.Direction.{Direction}
 use Rattle.p11_alu.specs.declared.direction.Direction.TheVariants.{Left, Right}
 use Rattle.p11_alu.specs.declared.codes.Codes.{Codes}
 use Rattle.p11_alu.specs.Numbers.{modulus, sign_weight, val, sval}
-use Rattle.p11_alu.specs.Results.{flag, result_with, logic_codes}
+use Rattle.p11_words.specs.Bits.{flag}
+use Rattle.p11_alu.specs.Results.{result_with, logic_codes}
 
 -- the sign bit of n, where it weighs h
 abbrev pub sign_of : ℕ → ℕ → Bool

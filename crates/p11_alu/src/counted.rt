@@ -1,3 +1,4 @@
+//! ASH and ASHC: shifts by a count.
 ghost use Rattle.std.specs.Prelude.{◌≡◌, ◌<◌, ◌≤◌, ◌+◌, ◌-◌, ◌^◌, pos, neg_ℤ, ◌≤ℤ◌, ◌<ℤ◌, ◌*ℤ◌};
 ghost use Rattle.std.specs.Int.{int_shr};
 ghost use Rattle.p11_alu.specs.CountedShifts.{ash_of, ashc_of, count_of};

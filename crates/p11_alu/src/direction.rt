@@ -1,4 +1,4 @@
-/// Which way bits move.
+/// Which way a shift or a rotation moves bits.
 #[derive(Clone, Copy)]
 pub enum Direction {
     Left,

@@ -1,7 +1,8 @@
+//! Shifts and rotations by one place, and SWAB.
 ghost use Rattle.std.specs.Prelude.{◌≡◌, ◌+◌, ◌*◌, ◌/◌, ◌%◌, if◌then◌else◌};
 ghost use Rattle.p11_alu.specs.Calls.Fits.{Fits};
 ghost use Rattle.p11_alu.specs.Numbers.{modulus, sign_weight, val};
-ghost use Rattle.p11_alu.specs.Results.{flag};
+ghost use Rattle.p11_words.specs.Bits.{flag};
 ghost use Rattle.p11_alu.specs.Shifts.{moved_result, rotate_of, shift_of, swab_of};
 
 use crate::codes::Codes;

@@ -1,3 +1,4 @@
+//! A register pair: 32 bits in two words.
 ghost use Rattle.std.specs.Prelude.{◌≡◌};
 ghost use Rattle.p11_alu.specs.Pairs.{number_of, pair_of, pair_value};
 

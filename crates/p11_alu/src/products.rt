@@ -1,3 +1,4 @@
+//! MUL and DIV.
 ghost use Rattle.std.specs.Prelude.{◌≡◌, ◌≢◌, true, ℤ, pos, neg_ℤ, ◌≤ℤ◌, ◌<ℤ◌, ◌*ℤ◌, int_div, int_rem};
 ghost use Rattle.p11_alu.specs.Numbers.{sval, wrapped};
 ghost use Rattle.p11_alu.specs.Pairs.{pair_of, pair_value};

@@ -1,3 +1,4 @@
+//! The quotient and the remainder of a division.
 use crate::codes::Codes;
 
 /// What DIV leaves. Where `fits` is false, as for a divisor of 0, no register is to be changed, and

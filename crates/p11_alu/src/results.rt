@@ -1,8 +1,10 @@
+//! Sums, differences and bitwise results, with their condition codes.
 ghost use Rattle.std.specs.Prelude.{◌≡◌, ◌<◌, ℕ, Bool, ◌+ℤ◌, ◌-ℤ◌, int_lt, not, pos};
 ghost use Rattle.std.specs.Ordering.{int_eq};
 ghost use Rattle.p11_alu.specs.Calls.Fits.{Fits};
 ghost use Rattle.p11_alu.specs.Numbers.{modulus, val, sval, wrapped};
-ghost use Rattle.p11_alu.specs.Results.{logic_codes, add_of, sub_of, cmp_codes, inc_of, dec_of, neg_of, adc_of, sbc_of, flag, result_of};
+ghost use Rattle.p11_alu.specs.Results.{logic_codes, add_of, sub_of, cmp_codes, inc_of, dec_of, neg_of, adc_of, sbc_of, result_of};
+ghost use Rattle.p11_words.specs.Bits.{flag};
 
 use crate::codes::Codes;
 use crate::size::Size;

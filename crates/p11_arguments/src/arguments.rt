@@ -1,3 +1,4 @@
+//! Reads the command line by clap: sizes and a script's name, or help, the version, or a refusal with its text.
 ghost use Rattle.std.specs.Prelude.{◌≡◌, IfOk, map, option_map, codes, false};
 ghost use Rattle.std.specs.String.{string_bytes};
 ghost use Rattle.clap.specs.Words.{app_of, found_of, rows_of, rule_of};
@@ -44,7 +45,7 @@ impl From<AllocError> for Unasked {
 }
 
 /// The version that `--version` shows.
-const VERSION: &str = "0.1.0";
+const VERSION: &str = "1.0.0";
 
 /// A number that a 32-bit word holds. Whether a machine can have that size is judged later.
 fn number<'a>() -> ValueParser<'a>

@@ -6,7 +6,7 @@ use Rattle.p11_lines.specs.declared.fault.Fault.TheVariants as faults
 use Rattle.p11_cpu.specs.Operator.{new_machine}
 use Rattle.p11_store.specs.Calls.Files.{NamedBytes}
 use Rattle.p11_panel.specs.Calls.Sizes.{Sizes, is_size, sizes_of}
-use Rattle.p11_c.specs.Calls.{Asked, Lent, HandsOut, asked_for, Refuses, PlaysOver, SessionGives}
+use Rattle.p11_c.specs.Calls.{Asked, Lent, HandsOut, asked_for, Refuses, TookManyReads, PlaysOver, SessionGives}
 use Rattle.p11_c.specs.Rows.{IsRow, IsNoRow}
 use Rattle.p11_c.specs.Typed.{typed_in}
 use Rattle.p11_c.specs.declared.status.Status.{Status}
@@ -48,9 +48,9 @@ pub no_memory : (asked : Asked) → is_size asked.kwords asked.lines ≡ true �
 unfolding Refuses
 no_memory asked h = h
 
-too_long : (asked : Asked) → is_size asked.kwords asked.lines ≡ true → Refuses TooLong asked
+too_long : (asked : Asked) → is_size asked.kwords asked.lines ≡ true → TookManyReads asked.script → Refuses TooLong asked
 unfolding Refuses
-too_long asked h = h
+too_long asked h many = (h, many)
 
 bad_files : (asked : Asked) → is_size asked.kwords asked.lines ≡ true → IsNoRow asked.files → Refuses BadFiles asked
 unfolding Refuses
@@ -60,11 +60,11 @@ pub row_refused : (status : Status) (asked : Asked) → is_size asked.kwords ask
 row_refused status asked sized (inl e) = let P : Status → Type 0 = λ s. Refuses s asked in subst P (sym e) (no_memory asked sized)
 row_refused status asked sized (inr bad) = let P : Status → Type 0 = λ s. Refuses s asked in subst P (sym bad.0) (bad_files asked sized bad.1)
 
-session_refused : (status : Status) (asked : Asked) → is_size asked.kwords asked.lines ≡ true → (status ≡ NoMemory) ⊎ (status ≡ TooLong) → Refuses status asked
+session_refused : (status : Status) (asked : Asked) → is_size asked.kwords asked.lines ≡ true → (status ≡ NoMemory) ⊎ ((status ≡ TooLong) × TookManyReads asked.script) → Refuses status asked
 session_refused status asked sized (inl e) = let P : Status → Type 0 = λ s. Refuses s asked in subst P (sym e) (no_memory asked sized)
-session_refused status asked sized (inr e) = let P : Status → Type 0 = λ s. Refuses s asked in subst P (sym e) (too_long asked sized)
+session_refused status asked sized (inr e) = let P : Status → Type 0 = λ s. Refuses s asked in subst P (sym e.0) (too_long asked sized e.1)
 
-pub refusals : {T : Type 0} (r : Result T Status) (asked : Asked) → is_size asked.kwords asked.lines ≡ true → IfErr r (λ status. (status ≡ NoMemory) ⊎ (status ≡ TooLong)) → IfErr r (λ status. Refuses status asked)
+pub refusals : {T : Type 0} (r : Result T Status) (asked : Asked) → is_size asked.kwords asked.lines ≡ true → IfErr r (λ status. (status ≡ NoMemory) ⊎ ((status ≡ TooLong) × TookManyReads asked.script)) → IfErr r (λ status. Refuses status asked)
 refusals (Ok x) asked sized h = h
 refusals (Err status) asked sized h = session_refused status asked sized h
 

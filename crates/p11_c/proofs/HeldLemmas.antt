@@ -3,25 +3,26 @@ use Rattle.std.proofs.Common.{◌≡◌, ◌⊎◌, ℕ, ℤ, true, false, List,
 use Rattle.std.specs.Io.KnownBytes.{Appends, Consumes, IsAtEnd}
 use Rattle.p11_lines.specs.Writers.{WriterState}
 use Rattle.p11_cpu.specs.State.{State}
-use Rattle.p11_store.specs.Calls.Files.{NamedBytes, MemoryFiles, store_of}
+use Rattle.std.specs.Prelude.{MatchOption}
+use Rattle.p11_store.specs.Calls.Files.{NamedBytes, MemoryFiles, bytes_under, store_of}
 use Rattle.p11_panel.specs.Script.{ended_lines, script_lines}
 use Rattle.p11_panel.specs.Session.{with_store, LineDoes, Runs, Did, Broke, texts_of}
 use Rattle.p11_panel.specs.Calls.Sizes.{Sizes, is_size, sizes_of}
-use Rattle.p11_c.specs.Calls.{Lent}
+use Rattle.p11_c.specs.Calls.{Lent, TookManyReads}
 use Rattle.p11_c.specs.Held.{Kept, Held, kept_of, new_kept}
-use Rattle.p11_c.specs.HeldCalls.{Plays, Stops, LinesEnd, with_kept_file, PutsFile, HandsText, OnHeld, Opens}
+use Rattle.p11_c.specs.HeldCalls.{Plays, Stops, LinesEnd, with_kept_file, PutsFile, without, Forgets, ForgetsFile, HandsText, OnHeld, Opens}
 use Rattle.p11_c.specs.Rows.{Fits, IsRow, IsNoRow, file_of}
 use Rattle.p11_c.specs.Statuses.{number_of_status}
 use Rattle.p11_c.specs.declared.status.Status.{Status}
-use Rattle.p11_c.specs.declared.status.Status.TheVariants.{Done, NoMemory, BadSize, BadFiles, TooLong, NoMachine}
+use Rattle.p11_c.specs.declared.status.Status.TheVariants.{Done, NoMemory, BadSize, BadFiles, TooLong, NoMachine, NoFile}
 use Rattle.p11_c.proofs.CallLemmas.{accepted_size, size_of}
-use Rattle.p11_c.proofs.StoreLemmas.{added}
+use Rattle.p11_c.proofs.StoreLemmas.{added, lacks_without, keeps_without}
 
 -- a writer in memory
 abbrev pub holds_text : List ℕ → WriterState
 holds_text text = record { bytes = Some text; writes = None }
 
-from_none : (start earlier text : List ℕ) → start ≡ [] → text ≡ start ++ earlier → text ≡ earlier
+pub from_none : (start earlier text : List ℕ) → start ≡ [] → text ≡ start ++ earlier → text ≡ earlier
 from_none start earlier text none e = e ∙ ap (λ (l : List ℕ). l ++ earlier) none
 
 text_from : (known : Option (List ℕ)) (start earlier front text : List ℕ) → start ≡ [] → Appends (Some start) known earlier → Appends known (Some text) front → text ≡ earlier ++ front
@@ -82,11 +83,11 @@ module _ (A : Type 0) (p p' : State) (m m' : MemoryFiles) (answer start text : L
       let P : List ℕ → Type 0 = λ s. Plays A (script_lines s) kept kept' in
       subst P (all_read script left read consumed end) (plays (script_lines read) n did)
 
-  pub ends_long : (script : List ℕ) (left : Option (List ℕ)) (read : List ℕ) (n : ℕ) → Consumes (Some script) left read → DidLines (ended_lines read) n → LinesEnd A script TooLong kept kept'
+  pub ends_long : (script : List ℕ) (left : Option (List ℕ)) (read : List ℕ) (n : ℕ) → Consumes (Some script) left read → TookManyReads read → DidLines (ended_lines read) n → LinesEnd A script TooLong kept kept'
   unfolding LinesEnd
-  ends_long script left read n consumed did =
+  ends_long script left read n consumed many did =
       let front = front_read script left read consumed in
-      (read, front.0, front.1, plays (ended_lines read) n did)
+      (read, front.0, front.1, (many, plays (ended_lines read) n did))
 
   ends_front : (script : List ℕ) (left : Option (List ℕ)) (read : List ℕ) → Consumes (Some script) left read → BrokeLines (ended_lines read) → LinesEnd A script NoMemory kept kept'
   unfolding LinesEnd
@@ -133,6 +134,13 @@ unfolding PutsFile
 file_put name bytes kept kept' fits same =
     let there = added kept.files kept'.files name bytes (ap (λ (k : Kept). k.files) same) in
     (fits, same, (there.0, there.1, refl, refl))
+
+-- a name is forgotten that has bytes
+pub file_forgotten : (name bytes : List ℕ) (kept kept' : Kept) → Some bytes ≡ bytes_under None kept.files name → kept' ≡ record kept { files = without name kept.files } → ForgetsFile name Done kept kept'
+file_forgotten name bytes kept kept' there same =
+    let P : Option (List ℕ) → Type 0 = λ o. MatchOption o ((Done ≡ NoFile) × (kept' ≡ kept)) (λ b. (Done ≡ Done) × Forgets name kept kept') in
+    let lacks : bytes_under None kept'.files name ≡ None = ap (λ (k : Kept). bytes_under None k.files name) same ∙ lacks_without kept.files name in
+    subst P there (refl, (same, lacks, λ other ne. ap (λ (k : Kept). bytes_under None k.files other) same ∙ keeps_without None kept.files name other ne))
 
 -- a call on what is held
 pub on_none : (Does : Kept → Status → Kept → Type 0) (Nothing : Type 0) (held held' : Held) (number : ℤ) → held ≡ None → number ≡ number_of_status NoMachine → held' ≡ None → Nothing → OnHeld Does Nothing held number held'

@@ -1,7 +1,9 @@
+-- Lemmas of the C library: machines behind C's pointers, rows of files, and what calls leave.
 pub mod AsBox
 pub mod CallLemmas
 pub mod HeldLemmas
 pub mod Loosened
+pub mod ReadLemmas
 pub mod RowLemmas
 pub mod StoreLemmas
 pub mod TypedLemmas

@@ -2,10 +2,11 @@
 use Rattle.std.proofs.Common.{◌≡◌, ◌≢◌, ◌+◌, ◌<◌, ℕ, true, false, List, [], ◌∷◌, ◌++◌, length, take, get_or, Option, None, Some, refl, sym, ap, ◌∙◌, inl, inr, All}
 use Rattle.std.proofs.lemmas.Bool.{cases_Bool}
 use Rattle.std.proofs.lemmas.List.{take_more}
-use Rattle.std.proofs.lemmas.List.Elements.{All-nil, All-cons, All-append}
+use Rattle.std.proofs.lemmas.List.Elements.{All-nil, All-cons, All-append, All-filter}
 use Rattle.std.proofs.lemmas.Slice.Eq.{bytes_eq-Decides}
 use Rattle.std.specs.Str.{bytes_eq}
 use Rattle.p11_store.specs.Calls.Files.{NamedBytes, unless_named, bytes_under}
+use Rattle.p11_c.specs.HeldCalls.{without}
 use Rattle.p11_c.specs.Rows.{Fits}
 
 bytes_under-push : (there : Option (List ℕ)) (files : List NamedBytes) (file : NamedBytes) (name : List ℕ) → bytes_under there (files ++ file ∷ []) name ≡ unless_named file name (bytes_under there files name)
@@ -35,6 +36,13 @@ other_name name bytes other there ne = elim (cases_Bool (bytes_eq name other)) [
   | inr apart ↦ rw apart refl
 ]
 
+-- a file of one name has nothing under another
+unnamed : (file : NamedBytes) (name other : List ℕ) (there : Option (List ℕ)) → bytes_eq file.name name ≡ true → other ≢ name → unless_named file other there ≡ there
+unnamed file name other there same ne = elim (cases_Bool (bytes_eq file.name other)) [
+  | inl also ↦ absurd (ne (sym ((bytes_eq-Decides file.name other).0 also) ∙ (bytes_eq-Decides file.name name).0 same))
+  | inr apart ↦ rw apart refl
+]
+
 -- one more file is there, and the others as they were
 pub added : (old new : List NamedBytes) (name bytes : List ℕ) → new ≡ old ++ (record { name = name; bytes = bytes }) ∷ [] → (bytes_under None new name ≡ Some bytes) × ((other : List ℕ) → other ≢ name → bytes_under None new other ≡ bytes_under None old other)
 added old new name bytes e =
@@ -58,3 +66,24 @@ found_here files i file name text bytes below item named held same =
 pub found_before : (files : List NamedBytes) (i : ℕ) (file : NamedBytes) (name text : List ℕ) (found : Option (List ℕ)) → i < length files → file ≡ get_or files i file → text ≡ file.name → bytes_eq text name ≡ false → found ≡ bytes_under None (take i files) name → found ≡ bytes_under None (take (i + 1) files) name
 found_before files i file name text found below item named other before =
     before ∙ sym (one_more files i file name below item ∙ has_other file name text (bytes_under None (take i files) name) named other)
+
+-- without a name, there are no bytes under it
+pub lacks_without : (files : List NamedBytes) (name : List ℕ) → bytes_under None (without name files) name ≡ None
+unfolding bytes_under
+lacks_without [] name = refl
+lacks_without (file ∷ files) name = elim (cases_Bool (bytes_eq file.name name)) [
+  | inl same ↦ rw same (lacks_without files name)
+  | inr apart ↦ rw apart (rw apart (lacks_without files name))
+]
+
+-- and what is under another name is as it was
+pub keeps_without : (there : Option (List ℕ)) (files : List NamedBytes) (name other : List ℕ) → other ≢ name → bytes_under there (without name files) other ≡ bytes_under there files other
+unfolding bytes_under
+keeps_without there [] name other ne = refl
+keeps_without there (file ∷ files) name other ne = elim (cases_Bool (bytes_eq file.name name)) [
+  | inl same ↦ rw same (keeps_without there files name other ne ∙ ap (λ (o : Option (List ℕ)). bytes_under o files other) (sym (unnamed file name other there same ne)))
+  | inr apart ↦ rw apart (keeps_without (unless_named file other there) files name other ne)
+]
+
+pub fit_without : (files : List NamedBytes) (name : List ℕ) → All Fits files → All Fits (without name files)
+fit_without files name fit = All-filter _ Fits files fit

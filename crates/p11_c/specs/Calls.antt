@@ -10,7 +10,7 @@ use Rattle.p11_panel.specs.Calls.Sizes.{is_size}
 use Rattle.p11_c.specs.Rows.{IsRow, IsNoRow}
 use Rattle.p11_c.specs.Statuses.{number_of_status}
 use Rattle.p11_c.specs.declared.status.Status.{Status}
-use Rattle.p11_c.specs.declared.status.Status.TheVariants.{Done, NoMemory, BadSize, BadFiles, TooSmall, TooLong, NoMachine}
+use Rattle.p11_c.specs.declared.status.Status.TheVariants.{Done, NoMemory, BadSize, BadFiles, TooSmall, TooLong, NoMachine, NoFile, TooMany}
 
 -- files in memory of which none was refused yet
 abbrev pub unrefused : List NamedBytes → MemoryFiles
@@ -73,6 +73,12 @@ HandsOut BadSize text files out list out' list' = ⊥
 HandsOut BadFiles text files out list out' list' = ⊥
 HandsOut TooLong text files out list out' list' = ⊥
 HandsOut NoMachine text files out list out' list' = ⊥
+HandsOut NoFile text files out list out' list' = ⊥
+HandsOut TooMany text files out list out' list' = ⊥
+
+-- 1,000,000 reads gave these bytes, and each of them one at least
+abbrev pub TookManyReads : List ℕ → Type 0
+TookManyReads bytes = 1000000 ≤ length bytes
 
 -- a session of what is asked for, and what is shown of its text is handed out with the files after it
 pub record Answers (A : Type 0) (shown : List ℕ → List ℕ) (asked : Asked) (status : Status)
@@ -89,8 +95,10 @@ Refuses TooSmall asked = ⊥
 Refuses NoMemory asked = is_size asked.kwords asked.lines ≡ true
 Refuses BadSize asked = is_size asked.kwords asked.lines ≡ false
 Refuses BadFiles asked = (is_size asked.kwords asked.lines ≡ true) × IsNoRow asked.files
-Refuses TooLong asked = is_size asked.kwords asked.lines ≡ true
+Refuses TooLong asked = (is_size asked.kwords asked.lines ≡ true) × TookManyReads asked.script
 Refuses NoMachine asked = ⊥
+Refuses NoFile asked = ⊥
+Refuses TooMany asked = ⊥
 
 -- it is refused, and nothing is written
 pub record Rejects (asked : Asked) (status : Status) (out list out' list' : Lent) : Type 0 where

@@ -1,19 +1,21 @@
 -- What a call does with a machine that a handle holds.
-use Rattle.std.specs.Prelude.{ℤ, ◌≡◌, ◌<◌, ◌≤◌, ◌⊎◌, ℕ, true, false, List, ◌∷◌, ◌++◌, length, None, Some}
+use Rattle.std.specs.Prelude.{ℤ, ◌≡◌, ◌<◌, ◌≤◌, ◌⊎◌, ℕ, true, false, not, List, ◌∷◌, ◌++◌, length, None, Some, MatchOption}
+use Rattle.std.specs.List.{filter}
+use Rattle.std.specs.Str.{bytes_eq}
 use Rattle.p11_lines.specs.declared.answer.Answer.{Answer}
 use Rattle.p11_lines.specs.AnswerText.{text_of}
-use Rattle.p11_store.specs.Calls.Files.{NamedBytes, store_of, with_file}
+use Rattle.p11_store.specs.Calls.Files.{NamedBytes, bytes_under, store_of, with_file}
 use Rattle.p11_panel.specs.Script.{ended_lines, script_lines}
 use Rattle.p11_panel.specs.Session.{SessionState, with_store, LineDoes, Runs, texts_of}
 use Rattle.p11_panel.specs.Calls.Sizes.{is_size}
-use Rattle.p11_store.specs.Store.{Puts}
-use Rattle.p11_c.specs.Calls.{Lent, holding, told_of, unrefused}
+use Rattle.p11_store.specs.Store.{Puts, Lacks, KeepsOthers}
+use Rattle.p11_c.specs.Calls.{Lent, TookManyReads, holding, told_of, unrefused}
 use Rattle.p11_c.specs.Held.{Kept, Held, new_kept}
 use Rattle.p11_c.specs.Rows.{Fits, IsRow, IsNoRow, file_of}
 use Rattle.p11_c.specs.Statuses.{number_of_status}
 use Rattle.p11_c.specs.Typed.{typed_in}
 use Rattle.p11_c.specs.declared.status.Status.{Status}
-use Rattle.p11_c.specs.declared.status.Status.TheVariants.{Done, NoMemory, BadSize, BadFiles, TooSmall, TooLong, NoMachine}
+use Rattle.p11_c.specs.declared.status.Status.TheVariants.{Done, NoMemory, BadSize, BadFiles, TooSmall, TooLong, NoMachine, NoFile, TooMany}
 
 -- what lines go on over: the machine and the files that are kept, of which so many were refused
 abbrev pub state_of : Kept → ℕ → SessionState
@@ -48,17 +50,19 @@ pub record Stops (A : Type 0) (lines : List (List ℕ)) (kept kept' : Kept) : Ty
 abbrev pub OfFront : List ℕ → (List ℕ → Type 0) → Type 0
 OfFront script Is = (read : List ℕ) × (rest : List ℕ) × (script ≡ read ++ rest) × Is read
 
--- What is done of a script, by the status. Done, all of it; too long, the lines that LF ended in what was read of it;
+-- What is done of a script, by the status. Done, all of it; too long, the lines that LF ended in what 1,000,000 reads gave;
 -- with no memory for a text, the lines up to the one whose text it is.
 unfoldable pub LinesEnd : (A : Type 0) → List ℕ → Status → Kept → Kept → Type 0
 LinesEnd A script Done kept kept' = Plays A (script_lines script) kept kept'
-LinesEnd A script TooLong kept kept' = OfFront script (λ read. Plays A (ended_lines read) kept kept')
+LinesEnd A script TooLong kept kept' = OfFront script (λ read. TookManyReads read × Plays A (ended_lines read) kept kept')
 LinesEnd A script NoMemory kept kept' =
     Stops A (script_lines script) kept kept' ⊎ OfFront script (λ read. Stops A (ended_lines read) kept kept')
 LinesEnd A script BadSize kept kept' = ⊥
 LinesEnd A script BadFiles kept kept' = ⊥
 LinesEnd A script TooSmall kept kept' = ⊥
 LinesEnd A script NoMachine kept kept' = ⊥
+LinesEnd A script NoFile kept kept' = ⊥
+LinesEnd A script TooMany kept kept' = ⊥
 
 -- what is handed out, by the status
 unfoldable pub HandsText : Status → List ℕ → Lent → Lent → Type 0
@@ -69,6 +73,8 @@ HandsText BadSize text out out' = ⊥
 HandsText BadFiles text out out' = ⊥
 HandsText TooLong text out out' = ⊥
 HandsText NoMachine text out out' = ⊥
+HandsText NoFile text out out' = ⊥
+HandsText TooMany text out out' = ⊥
 
 -- the files are handed out as their row, or there is no memory for the row and nothing is written
 abbrev pub HandsFiles : Status → List NamedBytes → Lent → Lent → Type 0
@@ -78,6 +84,11 @@ HandsFiles status files out out' =
 -- the typed bytes that the text shows are handed out, or there is no memory for them and nothing is written
 abbrev pub HandsTyped : Status → List ℕ → Lent → Lent → Type 0
 HandsTyped status text out out' = HandsText status (typed_in text) out out' ⊎ ((status ≡ NoMemory) × (out' ≡ out))
+
+-- the last bytes under a name are handed out; where the store has no file of the name, nothing is written
+abbrev pub HandsFile : Status → List NamedBytes → List ℕ → Lent → Lent → Type 0
+HandsFile status files name out out' =
+    MatchOption (bytes_under None files name) ((status ≡ NoFile) × (out' ≡ out)) (λ bytes. HandsText status bytes out out')
 
 -- one more file is kept, behind the others
 abbrev pub with_kept_file : List ℕ → List ℕ → Kept → Kept
@@ -94,6 +105,24 @@ PutsFile name bytes BadSize kept kept' = ⊥
 PutsFile name bytes TooSmall kept kept' = ⊥
 PutsFile name bytes TooLong kept kept' = ⊥
 PutsFile name bytes NoMachine kept kept' = ⊥
+PutsFile name bytes NoFile kept kept' = ⊥
+PutsFile name bytes TooMany kept kept' = ⊥
+
+-- the files that don't have a name, in their order
+abbrev pub without : List ℕ → List NamedBytes → List NamedBytes
+without name files = filter (λ file. not (bytes_eq file.name name)) files
+
+-- A name is forgotten: each file of it goes, and the others stay. So, as of any store, the name has no bytes, and each
+-- other name what it had. Where the store has no file of the name, nothing changes.
+abbrev pub Forgets : List ℕ → Kept → Kept → Type 0
+Forgets name kept kept' = (kept' ≡ record kept { files = without name kept.files })
+    × Lacks (store_of (unrefused kept'.files)).files name
+    × KeepsOthers (store_of (unrefused kept.files)).files name (store_of (unrefused kept'.files)).files
+
+abbrev pub ForgetsFile : List ℕ → Status → Kept → Kept → Type 0
+ForgetsFile name status kept kept' =
+    MatchOption (bytes_under None kept.files name) ((status ≡ NoFile) × (kept' ≡ kept))
+    (λ bytes. (status ≡ Done) × Forgets name kept kept')
 
 -- what a call does where a machine is held; where none is, it says so and does nothing
 unfoldable pub OnHeld : (Kept → Status → Kept → Type 0) → Type 0 → Held → ℤ → Held → Type 0
@@ -111,3 +140,5 @@ Opens kwords lines row BadFiles held held' = (is_size kwords lines ≡ true) × 
 Opens kwords lines row TooSmall held held' = ⊥
 Opens kwords lines row TooLong held held' = ⊥
 Opens kwords lines row NoMachine held held' = ⊥
+Opens kwords lines row NoFile held held' = ⊥
+Opens kwords lines row TooMany held held' = ⊥

@@ -1,6 +1,8 @@
+-- What C's calls answer and leave: the machine that a handle holds, files in rows, registers and statuses as numbers.
 pub mod Calls
 pub mod Held
 pub mod HeldCalls
+pub mod HeldRuns
 pub mod Registers
 pub mod Rows
 pub mod Slots

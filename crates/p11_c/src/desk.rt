@@ -1,16 +1,21 @@
 // A machine that is kept, with the files of its store and the text of its last answers.
-ghost use Rattle.std.specs.Prelude.{◌≡◌, ◌<◌, ℕ, List, IfOk};
+ghost use Rattle.std.specs.Prelude.{◌≡◌, ◌<◌, ℕ, List, None, IfOk, option_copied};
 ghost use Rattle.std.specs.List.{All};
 ghost use Rattle.p11_c.specs.Held.{kept_of, new_kept};
-ghost use Rattle.p11_c.specs.HeldCalls.{LinesEnd, PutsFile};
+ghost use Rattle.p11_cpu.specs.OperatorDevices.{machine_devices_of};
+ghost use Rattle.p11_store.specs.Calls.Files.{bytes_under};
+ghost use Rattle.p11_c.specs.HeldCalls.{LinesEnd, PutsFile, ForgetsFile};
+ghost use Rattle.p11_c.specs.HeldRuns.{RunEnds};
 ghost use Rattle.p11_c.specs.Registers.{told_registers};
 ghost use Rattle.p11_c.specs.Rows.{Fits, IsRow};
 
-use crate::registers::{Registers, tell_registers};
+use crate::registers::{Registers, keys_waiting, tell_registers};
 use crate::rows::write_row;
+use crate::run::{Run, answer_text, make_run, tell_run};
+use crate::script::Script;
 use crate::status::Status;
-use crate::store::{RowStore, StoredFile, add_file, fits};
-use p11_panel::{Config, NoMemory, Panel, SessionFault, StdReader, StdWriter, session};
+use crate::store::{RowStore, StoredFile, add_file, find, fits, forget};
+use p11_panel::{Answer, Config, NoMemory, Panel, SessionFault, StdWriter, session};
 use std::alloc::{AllocError, Global};
 use std::marker::{Brand, Model};
 use std::mem::replace;
@@ -25,24 +30,28 @@ struct Played {
 }
 
 /// Does the lines of a script over a store that has refused nothing: how they ended, and their text.
-fn run_lines<L: Ledger>(
+fn run_lines<L: Ledger, M: Ledger>(
     alloc: Global,
+    blank: Blank,
     panel: &mut Panel,
     store: &mut RowStore<L>,
     script: &[u8],
 ) -> (Status, Vec<u8>)
-    requires { store.old.refusals ≡ 0 }
+    requires name { blank.name ≡ M.name }
+    requires parts { blank.parts ≡ M.parts }
+    requires some { 0 < blank.parts }
+    requires none { store.old.refusals ≡ 0 }
     ensures { (answer : List ℕ) → LinesEnd Global script.now result.0 (kept_of panel.old store.old.files answer)
         (kept_of panel.new store.new.files result.1.items) }
 {
-    let mut reader = StdReader { inner: script };
+    let mut reader = Script::<M>::new(script, blank);
     let mut writer = StdWriter {
         inner: Vec::new(alloc),
     };
     match session(alloc, panel, store, &mut reader, &mut writer) {
         Ok(_) => (Status::Done, writer.inner),
         Err(SessionFault::Writing) => (Status::NoMemory, writer.inner),
-        Err(SessionFault::Reading) => (Status::TooLong, writer.inner),
+        Err(SessionFault::Reading) => unreachable!(),
         Err(SessionFault::TooLong) => (Status::TooLong, writer.inner),
     }
 }
@@ -64,7 +73,8 @@ fn play_lines<L: Ledger>(
     ensures fit { All Fits result.files.items }
 {
     let mut store = RowStore::<L>::new(alloc, blank, files);
-    let (status, text) = run_lines(alloc, panel, &mut store, script);
+    let blank = Blank::new(1);
+    let (status, text) = run_lines::<L, Brand>(alloc, blank, panel, &mut store, script);
     Played {
         status,
         text,
@@ -138,6 +148,58 @@ impl Desk {
             return Status::NoMemory;
         };
         Status::Done
+    }
+
+    /// Makes a run of so many turns, tells its numbers, and keeps the text of its answer.
+    pub(crate) fn run(
+        &mut self,
+        alloc: Global,
+        turns: u32,
+        until_idle: bool,
+        told: &mut Run,
+    ) -> Status
+        ensures { RunEnds Global until_idle turns result self.old told.old self.new told.new }
+    {
+        let answer = make_run(alloc, &mut self.panel, turns, until_idle);
+        let Answer::Stop {
+            typed: _,
+            reason,
+            turns: made,
+            pc,
+        } = &answer
+        else {
+            return Status::TooMany;
+        };
+        *told = tell_run(*made, *reason, *pc);
+        let (status, text) = answer_text(alloc, &answer);
+        self.answer = text;
+        status
+    }
+
+    /// The last bytes under a name.
+    pub(crate) fn file(&self, name: &[u8]) -> Option<&[u8]>
+        ensures { option_copied result ≡ bytes_under None self.now.files name.now }
+    {
+        find(self.files.as_slice(), name)
+    }
+
+    /// Drops each file of a name.
+    pub(crate) fn forget_file(&mut self, name: &[u8]) -> Status
+        ensures { ForgetsFile name.now result self.old self.new }
+    {
+        let Some(_) = find(self.files.as_slice(), name) else {
+            return Status::NoFile;
+        };
+        forget(&mut self.files, name);
+        Status::Done
+    }
+
+    /// How many keys wait for the machine to take them.
+    pub(crate) fn keys_waiting(&mut self, alloc: Global) -> u32
+        ensures value { result ≡ (machine_devices_of self.old.machine).keys }
+        ensures state { self.new ≡ self.old }
+    {
+        keys_waiting(alloc, &mut self.panel)
     }
 
     /// The registers of the machine.

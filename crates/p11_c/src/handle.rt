@@ -2,7 +2,7 @@
 ghost use Rattle.std.specs.Prelude.{◌≡◌, ◌≤◌, None, Some, IfOk, IfErr, MatchOption};
 ghost use Rattle.p11_c.specs.Calls.{lent};
 ghost use Rattle.p11_c.specs.Held.{Held, machines_of};
-ghost use Rattle.p11_c.specs.HeldCalls.{HandsText, HandsTyped, HandsFiles, Opens};
+ghost use Rattle.p11_c.specs.HeldCalls.{HandsText, HandsTyped, HandsFiles, HandsFile, Opens};
 
 use crate::desk::Desk;
 use crate::rows::read_row;
@@ -137,5 +137,15 @@ pub(crate) fn hand_files(
     match desk.files(alloc) {
         Ok(row) => hand_text(row.as_slice(), out, out_length),
         Err(_) => Status::NoMemory,
+    }
+}
+
+/// Copies the last bytes under a name into the caller's buffer, if that has room for them; it is told the length.
+pub(crate) fn hand_file(desk: &Desk, name: &[u8], out: &mut [u8], out_length: &mut usize) -> Status
+    ensures { HandsFile result desk.now.files name.now (lent out.old out_length.old) (lent out.new out_length.new) }
+{
+    match desk.file(name) {
+        Some(bytes) => hand_text(bytes, out, out_length),
+        None => Status::NoFile,
     }
 }

@@ -2,9 +2,12 @@
 //! a machine that is kept from line to line.
 #![tactic(auto)]
 
-ghost use Rattle.std.specs.Prelude.{◌≡◌, ⊤, List, ℕ, None};
+ghost use Rattle.std.specs.Prelude.{◌≡◌, ⊤, List, ℕ, None, nat_lt};
 ghost use Rattle.p11_c.specs.Calls.{Ends, asked_for, lent};
-ghost use Rattle.p11_c.specs.HeldCalls.{OnHeld, LinesEnd, PutsFile, HandsText, HandsTyped, HandsFiles, Opens};
+ghost use Rattle.p11_cpu.specs.OperatorDevices.{machine_devices_of};
+ghost use Rattle.p11_c.specs.HeldCalls.{OnHeld, LinesEnd, PutsFile, ForgetsFile, HandsText, HandsTyped, HandsFiles};
+ghost use Rattle.p11_c.specs.HeldCalls.{HandsFile, Opens};
+ghost use Rattle.p11_c.specs.HeldRuns.{RunEnds};
 ghost use Rattle.p11_c.specs.Registers.{told_registers};
 ghost use Rattle.p11_c.specs.Statuses.{number_of_status};
 ghost use Rattle.p11_c.specs.Typed.{typed_in};
@@ -15,14 +18,17 @@ mod handle;
 mod loose;
 mod registers;
 mod rows;
+mod run;
+mod script;
 mod session;
 mod slot;
 mod status;
 mod store;
 mod typed;
 
-use crate::handle::{Handle, hand_files, hand_text, hand_typed, new_desk};
+use crate::handle::{Handle, hand_file, hand_files, hand_text, hand_typed, new_desk};
 use crate::registers::Registers;
+use crate::run::Run;
 use crate::session::{hand_out, play, play_typed};
 use crate::status::Status;
 pub use rows::rows_read_back;
@@ -63,7 +69,8 @@ pub extern "C" fn p11_session(
     }
 }
 
-/// The same, but of the text only the bytes that were typed on the terminal, as they are.
+/// Runs a session as `p11_session` does, and hands out the bytes that were typed on the terminal, as they are, in the
+/// place of the answers' text.
 #[unsafe(no_mangle)]
 pub extern "C" fn p11_typed(
     alloc: Global,
@@ -135,6 +142,34 @@ pub extern "C" fn p11_line(alloc: Global, handle: &mut Handle, line: &[u8]) -> i
     status.number()
 }
 
+/// Makes a run on the machine that the handle holds, as the line `step` does with so many turns, or, where `until_idle`
+/// isn't 0, the line `continue`; and tells its numbers. The text of that line's answer is kept with the machine in the
+/// place of the last.
+///
+/// # Errors
+///
+/// The number of a `Status`: `TooMany` for 0 turns, for more than 100,000,000, and for more than bring the count of all
+/// turns to 2^62; nothing changes then, and nothing is told. Where it is `NoMemory`, the run is made and told, and the
+/// handle holds the machine as it is then.
+#[unsafe(no_mangle)]
+pub extern "C" fn p11_run(
+    alloc: Global,
+    handle: &mut Handle,
+    turns: u32,
+    until_idle: u32,
+    run: &mut Run,
+) -> i32
+    ensures { OnHeld (λ kept status kept'. RunEnds Global (nat_lt 0 until_idle) turns status kept run.old kept' run.new)
+        (run.new ≡ run.old) handle.old.slot.held result handle.new.slot.held }
+{
+    let Some(mut desk) = handle.take(alloc) else {
+        return Status::NoMachine.number();
+    };
+    let status = desk.run(alloc, turns, until_idle > 0, run);
+    handle.put(desk);
+    status.number()
+}
+
 /// Puts a file into the store of the machine that the handle holds: its name has these bytes from then on, in the place
 /// of any that it had.
 ///
@@ -151,6 +186,51 @@ pub extern "C" fn p11_put_file(alloc: Global, handle: &mut Handle, name: &[u8], 
         return Status::NoMachine.number();
     };
     let status = desk.put_file(alloc, name, bytes);
+    handle.put(desk);
+    status.number()
+}
+
+/// Hands out the last bytes under a name in the store of the machine that the handle holds.
+///
+/// # Errors
+///
+/// The number of a `Status`: `NoFile` where the store has no file of the name, and nothing is written. Too small a buffer
+/// is told with the length that is wanted, and nothing else is written.
+#[unsafe(no_mangle)]
+pub extern "C" fn p11_file(
+    alloc: Global,
+    handle: &mut Handle,
+    name: &[u8],
+    bytes: &mut [u8],
+    bytes_length: &mut usize,
+) -> i32
+    ensures { OnHeld (λ kept status kept'. (kept' ≡ kept) × HandsFile status kept.files name.now
+        (lent bytes.old bytes_length.old) (lent bytes.new bytes_length.new))
+        (lent bytes.new bytes_length.new ≡ lent bytes.old bytes_length.old)
+        handle.old.slot.held result handle.new.slot.held }
+{
+    let Some(desk) = handle.take(alloc) else {
+        return Status::NoMachine.number();
+    };
+    let status = hand_file(&desk, name, bytes, bytes_length);
+    handle.put(desk);
+    status.number()
+}
+
+/// Drops each file of a name from the store of the machine that the handle holds.
+///
+/// # Errors
+///
+/// The number of a `Status`: `NoFile` where the store has no file of the name, and nothing changes.
+#[unsafe(no_mangle)]
+pub extern "C" fn p11_forget(alloc: Global, handle: &mut Handle, name: &[u8]) -> i32
+    ensures { OnHeld (λ kept status kept'. ForgetsFile name.now status kept kept') ⊤
+        handle.old.slot.held result handle.new.slot.held }
+{
+    let Some(mut desk) = handle.take(alloc) else {
+        return Status::NoMachine.number();
+    };
+    let status = desk.forget_file(name);
     handle.put(desk);
     status.number()
 }
@@ -220,6 +300,25 @@ pub extern "C" fn p11_regs(alloc: Global, handle: &mut Handle, regs: &mut Regist
         return Status::NoMachine.number();
     };
     *regs = desk.registers(alloc);
+    handle.put(desk);
+    Status::Done.number()
+}
+
+/// Tells how many keys wait for the machine that the handle holds to take them.
+///
+/// # Errors
+///
+/// The number of a `Status`, and nothing is written.
+#[unsafe(no_mangle)]
+pub extern "C" fn p11_keys_waiting(alloc: Global, handle: &mut Handle, keys: &mut u32) -> i32
+    ensures { OnHeld (λ kept status kept'. (status ≡ Status.Done) × (kept' ≡ kept)
+        × (keys.new ≡ (machine_devices_of kept.machine).keys))
+        (keys.new ≡ keys.old) handle.old.slot.held result handle.new.slot.held }
+{
+    let Some(mut desk) = handle.take(alloc) else {
+        return Status::NoMachine.number();
+    };
+    *keys = desk.keys_waiting(alloc);
     handle.put(desk);
     Status::Done.number()
 }

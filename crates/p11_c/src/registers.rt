@@ -1,6 +1,6 @@
 // The registers as C sees them.
 ghost use Rattle.std.specs.Prelude.{◌≡◌};
-ghost use Rattle.p11_cpu.specs.OperatorDevices.{status_0_of, status_2_of};
+ghost use Rattle.p11_cpu.specs.OperatorDevices.{machine_devices_of, status_0_of, status_2_of};
 ghost use Rattle.p11_panel.specs.Shown.{registers_of};
 ghost use Rattle.p11_c.specs.Registers.{number_of_mark, told_registers};
 
@@ -13,7 +13,7 @@ use std::alloc::Global;
 pub struct Registers {
     /// The turns since the machine was made.
     pub turns: u64,
-    /// R0 to R5.
+    /// R0 to R5, each a word of 16 bits.
     pub general: [u16; 6],
     /// The stack pointer of kernel mode.
     pub kernel_sp: u16,
@@ -86,5 +86,17 @@ pub(crate) fn tell_registers(alloc: Global, panel: &mut Panel) -> Registers
         status_0: management.status_0,
         status_2: management.status_2,
         mark: number_of_mark(shown.mark),
+    }
+}
+
+/// How many keys wait for a machine to take them; it stays as it is.
+#[tactic(auto, unfolding(p11_panel::specs::Shown::shown_devices))]
+pub(crate) fn keys_waiting(alloc: Global, panel: &mut Panel) -> u32
+    ensures value { result ≡ (machine_devices_of panel.old).keys }
+    ensures state { panel.new ≡ panel.old }
+{
+    match panel.act(alloc, &Command::Device) {
+        Answer::Devices(shown) => shown.bus.keys,
+        _ => unreachable!(),
     }
 }

@@ -5,15 +5,16 @@ ghost use Rattle.p11_cpu.specs.Operator.{new_machine};
 ghost use Rattle.p11_store.specs.Calls.Files.{store_of};
 ghost use Rattle.p11_panel.specs.Script.{script_lines};
 ghost use Rattle.p11_panel.specs.Session.{with_store, LineDoes, Did};
-ghost use Rattle.p11_c.specs.Calls.{PlaysOver, SessionGives, Refuses, HandsOut, asked_for, lent};
+ghost use Rattle.p11_c.specs.Calls.{PlaysOver, SessionGives, Refuses, TookManyReads, HandsOut, asked_for, lent};
 ghost use Rattle.p11_c.specs.Rows.{Fits};
 ghost use Rattle.p11_c.specs.Typed.{typed_in};
 
 use crate::rows::{read_row, write_row};
+use crate::script::Script;
 use crate::status::Status;
 use crate::store::{RowStore, StoredFile};
 use crate::typed::typed_bytes;
-use p11_panel::{Config, Panel, SessionFault, StdReader, StdWriter, session};
+use p11_panel::{Config, Panel, SessionFault, StdWriter, session};
 use std::alloc::Global;
 use std::marker::Brand;
 use std::sync::ledger::{Blank, Ledger};
@@ -28,25 +29,30 @@ pub(crate) struct Given {
 }
 
 /// Does a whole script: the text of its answers.
-fn run_script<L: Ledger>(
+fn run_script<L: Ledger, M: Ledger>(
     alloc: Global,
+    blank: Blank,
     panel: &mut Panel,
     store: &mut RowStore<L>,
     script: &[u8],
 ) -> Result<Vec<u8>, Status>
+    requires name { blank.name ≡ M.name }
+    requires parts { blank.parts ≡ M.parts }
+    requires some { 0 < blank.parts }
     ensures ok { IfOk result (λ text. (m : ℕ) × Did (LineDoes {A = Global}) (script_lines script.now)
         (with_store panel.old (store_of store.old)) (record { bytes = Some []; writes = None })
         (with_store panel.new (store_of store.new)) (record { bytes = Some text.items; writes = None }) m) }
-    ensures err { IfErr result (λ status. (status ≡ Status.NoMemory) ⊎ (status ≡ Status.TooLong)) }
+    ensures err { IfErr result (λ status. (status ≡ Status.NoMemory)
+        ⊎ ((status ≡ Status.TooLong) × TookManyReads script.now)) }
 {
-    let mut reader = StdReader { inner: script };
+    let mut reader = Script::<M>::new(script, blank);
     let mut writer = StdWriter {
         inner: Vec::new(alloc),
     };
     match session(alloc, panel, store, &mut reader, &mut writer) {
         Ok(_) => Ok(writer.inner),
         Err(SessionFault::Writing) => Err(Status::NoMemory),
-        Err(SessionFault::Reading) => Err(Status::TooLong),
+        Err(SessionFault::Reading) => unreachable!(),
         Err(SessionFault::TooLong) => Err(Status::TooLong),
     }
 }
@@ -65,10 +71,12 @@ fn play_files<L: Ledger>(
     requires fit { All Fits files.items }
     ensures ok { IfOk result (λ given.
         PlaysOver Global panel.old files.items script.now given.text.items given.files.items) }
-    ensures err { IfErr result (λ status. (status ≡ Status.NoMemory) ⊎ (status ≡ Status.TooLong)) }
+    ensures err { IfErr result (λ status. (status ≡ Status.NoMemory)
+        ⊎ ((status ≡ Status.TooLong) × TookManyReads script.now)) }
 {
     let mut store = RowStore::<L>::new(alloc, blank, files);
-    let text = run_script(alloc, panel, &mut store, script)?;
+    let blank = Blank::new(1);
+    let text = run_script::<L, Brand>(alloc, blank, panel, &mut store, script)?;
     let files = write_row(alloc, store.files())?;
     Ok(Given { text, files })
 }
@@ -83,7 +91,8 @@ fn play_new(
     requires fit { All Fits files.items }
     ensures ok { IfOk result (λ given.
         PlaysOver Global (new_machine config.kwords) files.items script.now given.text.items given.files.items) }
-    ensures err { IfErr result (λ status. (status ≡ Status.NoMemory) ⊎ (status ≡ Status.TooLong)) }
+    ensures err { IfErr result (λ status. (status ≡ Status.NoMemory)
+        ⊎ ((status ≡ Status.TooLong) × TookManyReads script.now)) }
 {
     let Ok(mut panel) = Panel::new(alloc, config) else {
         return Err(Status::NoMemory);
@@ -128,7 +137,7 @@ fn shown(alloc: Global, given: Given) -> Result<Given, Status>
     Ok(Given { text, files })
 }
 
-/// The same, but of the text only what its lines show of typed bytes.
+/// Plays as `play` does; of the text it gives only the typed bytes that its lines show.
 pub(crate) fn play_typed(
     alloc: Global,
     kwords: u32,

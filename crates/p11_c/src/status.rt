@@ -22,6 +22,10 @@ pub enum Status {
     TooLong,
     /// The handle holds no machine.
     NoMachine,
+    /// The machine's store has no file of this name.
+    NoFile,
+    /// No run has so many turns, or the machine can't count that many more.
+    TooMany,
 }
 
 impl Status {
@@ -38,6 +42,8 @@ impl Status {
             Status::TooSmall => 4,
             Status::TooLong => 5,
             Status::NoMachine => 6,
+            Status::NoFile => 7,
+            Status::TooMany => 8,
         }
     }
 }

@@ -4,6 +4,7 @@ ghost use Rattle.std.specs.Prelude.{option_copied};
 ghost use Rattle.std.specs.List.{All};
 ghost use Rattle.p11_store.specs.Calls.Files.{bytes_under, with_file};
 ghost use Rattle.p11_c.specs.Calls.{unrefused};
+ghost use Rattle.p11_c.specs.HeldCalls.{without};
 ghost use Rattle.p11_c.specs.Rows.{Fits, file_of};
 
 use p11_panel::{Refusals, Store, StoreError};
@@ -67,7 +68,7 @@ pub(crate) fn add_file<A: Allocator + Copy>(
 }
 
 /// The last bytes under a name.
-fn find<'a, A: Allocator>(files: &'a [StoredFile<A>], name: &[u8]) -> Option<&'a [u8]>
+pub(crate) fn find<'a, A: Allocator>(files: &'a [StoredFile<A>], name: &[u8]) -> Option<&'a [u8]>
     ensures { option_copied result ≡ bytes_under None files.now name.now }
 {
     let mut found = None;
@@ -78,6 +79,13 @@ fn find<'a, A: Allocator>(files: &'a [StoredFile<A>], name: &[u8]) -> Option<&'a
         }
     }
     found
+}
+
+/// Drops each file of a name.
+pub(crate) fn forget<A: Allocator>(files: &mut Vec<StoredFile<A>, A>, name: &[u8])
+    ensures { files.new.items ≡ without name.now files.old.items }
+{
+    files.retain(|file| file.name() != name);
 }
 
 /// A store of files in memory, in which the last bytes under a name count, and whose names and files have fewer than

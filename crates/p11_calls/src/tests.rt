@@ -12,4 +12,5 @@ mod status;
 mod tapes;
 mod texts_and_memory;
 mod translation;
+mod words;
 mod writers;

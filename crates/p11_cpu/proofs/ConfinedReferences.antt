@@ -122,7 +122,7 @@ then_landed kind m next first kept =
 
 -- READS
 
-with_same_bus : (a h : HardwareState) (b : BusState) → SameBus a.management a.bus b → Within a h → Within a (record h { bus = b; ready = None })
+with_same_bus : (a h : HardwareState) (b : BusState) → SameBus a.management a.bus b → Within a h → Within a (record h { bus = b })
 with_same_bus a h b same w =
     record { laws = w.laws; confines = w.confines; processor = w.processor; management = w.management; bus = same }
 

@@ -98,8 +98,8 @@ unfolding instruction_run
 rest_within turn a (b, Some vector) e same w = cc e
 rest_within turn a (b, None) e same w =
     let bus : SameBus a.management a.bus b = subst (λ (c : BusState). SameBus a.management a.bus c) (sym (same refl)) w.bus in
-    let here : Within a (record a { bus = b; ready = None }) = record { laws = w.laws; confines = w.confines; processor = w.processor; management = w.management; bus = bus } in
-    run_alone a.processor.waiting turn a (record a { bus = b; ready = None }) e here
+    let here : Within a (record a { bus = b }) = record { laws = w.laws; confines = w.confines; processor = w.processor; management = w.management; bus = bus } in
+    run_alone a.processor.waiting turn a (record a { bus = b }) e here
 
 -- THE TURN
 

@@ -1,2 +1,3 @@
 -- What contracts of calls say beside the definitions.
 pub mod QuietTurns
+pub mod Endings

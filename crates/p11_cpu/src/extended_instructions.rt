@@ -1,3 +1,4 @@
+//! MUL, DIV, ASH and ASHC.
 ghost use Rattle.std.specs.Prelude.{◌≡◌};
 ghost use Rattle.p11_cpu.specs.ExtendedInstructions.{quotient_stored};
 ghost use Rattle.p11_cpu.specs.Instructions.{execute_of};
@@ -59,7 +60,7 @@ impl<A: Allocator> Hardware<A> {
     }
 
     /// MUL.
-    #[tactic(auto, unfolding(crate::specs::Instructions::execute_of, crate::specs::Operands::value_of))]
+    #[tactic(auto, unfolding(crate::specs::Instructions::execute_of))]
     #[inline(always)]
     pub fn mul(
         &mut self,
@@ -69,8 +70,7 @@ impl<A: Allocator> Hardware<A> {
     ) -> Result<(), Trap>
         ensures { execute_of (Op.Mul register operand) turn self.old ≡ (self.new, result) }
     {
-        let place = self.find_place(turn, Size::Word, operand)?;
-        let factor = self.read_place(turn, Size::Word, place)?;
+        let factor = self.value(turn, Size::Word, operand)?;
         let (product, codes) = mul(self.register(register), factor);
         self.set_codes(codes);
         self.set_pair(register, product);
@@ -78,7 +78,7 @@ impl<A: Allocator> Hardware<A> {
     }
 
     /// DIV.
-    #[tactic(auto, unfolding(crate::specs::Instructions::execute_of, crate::specs::Operands::value_of))]
+    #[tactic(auto, unfolding(crate::specs::Instructions::execute_of))]
     #[inline(always)]
     pub fn div(
         &mut self,
@@ -88,8 +88,7 @@ impl<A: Allocator> Hardware<A> {
     ) -> Result<(), Trap>
         ensures { execute_of (Op.Div register operand) turn self.old ≡ (self.new, result) }
     {
-        let place = self.find_place(turn, Size::Word, operand)?;
-        let divisor = self.read_place(turn, Size::Word, place)?;
+        let divisor = self.value(turn, Size::Word, operand)?;
         let quotient = div(self.pair(register), divisor);
         self.set_codes(quotient.codes);
         self.store_quotient(register, quotient);
@@ -97,7 +96,7 @@ impl<A: Allocator> Hardware<A> {
     }
 
     /// ASH.
-    #[tactic(auto, unfolding(crate::specs::Instructions::execute_of, crate::specs::Operands::value_of))]
+    #[tactic(auto, unfolding(crate::specs::Instructions::execute_of))]
     #[inline(always)]
     pub fn ash(
         &mut self,
@@ -107,8 +106,7 @@ impl<A: Allocator> Hardware<A> {
     ) -> Result<(), Trap>
         ensures { execute_of (Op.Ash register operand) turn self.old ≡ (self.new, result) }
     {
-        let place = self.find_place(turn, Size::Word, operand)?;
-        let count = self.read_place(turn, Size::Word, place)?;
+        let count = self.value(turn, Size::Word, operand)?;
         let (shifted, codes) = ash(self.register(register), count);
         self.set_codes(codes);
         self.set_register(register, shifted);
@@ -116,7 +114,7 @@ impl<A: Allocator> Hardware<A> {
     }
 
     /// ASHC.
-    #[tactic(auto, unfolding(crate::specs::Instructions::execute_of, crate::specs::Operands::value_of))]
+    #[tactic(auto, unfolding(crate::specs::Instructions::execute_of))]
     #[inline(always)]
     pub fn ashc(
         &mut self,
@@ -126,8 +124,7 @@ impl<A: Allocator> Hardware<A> {
     ) -> Result<(), Trap>
         ensures { execute_of (Op.Ashc register operand) turn self.old ≡ (self.new, result) }
     {
-        let place = self.find_place(turn, Size::Word, operand)?;
-        let count = self.read_place(turn, Size::Word, place)?;
+        let count = self.value(turn, Size::Word, operand)?;
         let (shifted, codes) = ashc(self.pair(register), count);
         self.set_codes(codes);
         self.set_pair(register, shifted);

@@ -1,3 +1,4 @@
+//! MFPI and MTPI, whose operand is in the space of the previous mode.
 ghost use Rattle.std.specs.Prelude.{◌≡◌};
 ghost use Rattle.p11_cpu.specs.Instructions.{execute_of};
 ghost use Rattle.p11_cpu.specs.PreviousSpace.{read_previous_of, write_previous_of};
@@ -20,7 +21,7 @@ impl<A: Allocator> Hardware<A> {
             Place::Register(register) => Ok(self.previous_register(register)),
             Place::Memory(address) => {
                 let mode = self.previous_mode();
-                self.read_word_in(turn, mode, address)
+                self.read_in(turn, mode, Size::Word, address)
             }
         }
     }
@@ -37,27 +38,29 @@ impl<A: Allocator> Hardware<A> {
             }
             Place::Memory(address) => {
                 let mode = self.previous_mode();
-                self.write_word_in(turn, mode, address, word)
+                self.write_in(turn, mode, Size::Word, address, word)
             }
         }
     }
 
-    /// MFPI.
+    /// MFPI, out of line.
     #[tactic(auto, unfolding(crate::specs::Instructions::execute_of))]
-    pub fn mfpi(&mut self, turn: TurnNumber, operand: Operand) -> Result<(), Trap>
+    #[inline(never)]
+    fn mfpi_apart(&mut self, turn: TurnNumber, operand: Operand) -> Result<(), Trap>
         ensures { execute_of (Op.Mfpi operand) turn self.old ≡ (self.new, result) }
     {
         let source = self.find_place(turn, Size::Word, operand)?;
         let word = self.read_previous(turn, source)?;
         let top = self.step_down(Register::Sp, 2)?;
         self.set_codes(logic(Width::Word, word, self.codes().c));
-        self.write_word(turn, top, word)?;
+        self.write(turn, Size::Word, top, word)?;
         Ok(())
     }
 
-    /// MTPI.
+    /// MTPI, out of line.
     #[tactic(auto, unfolding(crate::specs::Instructions::execute_of))]
-    pub fn mtpi(&mut self, turn: TurnNumber, operand: Operand) -> Result<(), Trap>
+    #[inline(never)]
+    fn mtpi_apart(&mut self, turn: TurnNumber, operand: Operand) -> Result<(), Trap>
         ensures { execute_of (Op.Mtpi operand) turn self.old ≡ (self.new, result) }
     {
         let word = self.pop(turn)?;
@@ -65,5 +68,27 @@ impl<A: Allocator> Hardware<A> {
         self.set_codes(logic(Width::Word, word, self.codes().c));
         self.write_previous(turn, destination, word)?;
         Ok(())
+    }
+
+    /// MFPI.
+    #[inline(always)]
+    pub fn mfpi(&mut self, turn: TurnNumber, operand: Operand) -> Result<(), Trap>
+        ensures { execute_of (Op.Mfpi operand) turn self.old ≡ (self.new, result) }
+    {
+        match self.mfpi_apart(turn, operand) {
+            Ok(()) => Ok(()),
+            Err(trap) => Err(trap),
+        }
+    }
+
+    /// MTPI.
+    #[inline(always)]
+    pub fn mtpi(&mut self, turn: TurnNumber, operand: Operand) -> Result<(), Trap>
+        ensures { execute_of (Op.Mtpi operand) turn self.old ≡ (self.new, result) }
+    {
+        match self.mtpi_apart(turn, operand) {
+            Ok(()) => Ok(()),
+            Err(trap) => Err(trap),
+        }
     }
 }

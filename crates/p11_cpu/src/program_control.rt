@@ -1,6 +1,7 @@
+//! Branches, jumps, subroutines, SOB and MARK.
 ghost use Rattle.std.specs.Prelude.{◌≡◌, ℕ, ◌==◌, Ok};
 ghost use Rattle.p11_cpu.specs.Instructions.{execute_of};
-ghost use Rattle.p11_cpu.specs.ProgramControl.{is_taken, branch_address, branched, counted_back};
+ghost use Rattle.p11_cpu.specs.ProgramControl.{is_taken, branch_address};
 ghost use Rattle.p11_cpu.specs.Registers.{codes_of};
 
 use crate::hardware::Hardware;
@@ -54,37 +55,16 @@ impl<A: Allocator> Hardware<A> {
         }
     }
 
-    /// Sets PC to a branch's address, where the branch is taken.
-    #[tactic(auto, unfolding(crate::specs::ProgramControl::branched))]
+    /// BR and the conditional branches.
+    #[tactic(auto, unfolding(crate::specs::Instructions::execute_of, crate::specs::ProgramControl::branched))]
     #[inline(always)]
-    fn take_branch(&mut self, condition: Condition, offset: Displacement)
-        ensures { self.new ≡ branched condition offset self.old }
+    pub fn branch_on(&mut self, condition: Condition, offset: Displacement)
+        ensures { (turn : ℕ) → execute_of (Op.Branch condition offset) turn self.old ≡ (self.new, Ok tt) }
     {
         if self.takes(condition) {
             let target = branch_target(offset, self.register(Register::Pc));
             self.set_register(Register::Pc, target);
         }
-    }
-
-    /// Takes twice the count from PC, where a register that was counted down isn't 0.
-    #[tactic(auto, unfolding(crate::specs::ProgramControl::counted_back))]
-    #[inline(always)]
-    fn count_back(&mut self, register: Register, count: Count)
-        ensures { self.new ≡ counted_back register count self.old }
-    {
-        if !is_zero(self.register(register)) {
-            let back = 2 * u16::from(count.words());
-            self.set_register(Register::Pc, minus(self.register(Register::Pc), back));
-        }
-    }
-
-    /// BR and the conditional branches.
-    #[tactic(auto, unfolding(crate::specs::Instructions::execute_of))]
-    #[inline(always)]
-    pub fn branch_on(&mut self, condition: Condition, offset: Displacement)
-        ensures { (turn : ℕ) → execute_of (Op.Branch condition offset) turn self.old ≡ (self.new, Ok tt) }
-    {
-        self.take_branch(condition, offset);
     }
 
     /// JMP.
@@ -130,9 +110,10 @@ impl<A: Allocator> Hardware<A> {
         Ok(())
     }
 
-    /// MARK.
+    /// MARK, out of line.
     #[tactic(auto, unfolding(crate::specs::Instructions::execute_of))]
-    pub fn mark(&mut self, turn: TurnNumber, count: Count) -> Result<(), Trap>
+    #[inline(never)]
+    fn mark_apart(&mut self, turn: TurnNumber, count: Count) -> Result<(), Trap>
         ensures { execute_of (Op.Mark count) turn self.old ≡ (self.new, result) }
     {
         let pc = self.register(Register::Pc);
@@ -145,12 +126,26 @@ impl<A: Allocator> Hardware<A> {
     }
 
     /// SOB.
-    #[tactic(auto, unfolding(crate::specs::Instructions::execute_of))]
+    #[tactic(auto, unfolding(crate::specs::Instructions::execute_of, crate::specs::ProgramControl::counted_back))]
     #[inline(always)]
     pub fn sob(&mut self, register: Register, count: Count)
         ensures { (turn : ℕ) → execute_of (Op.Sob register count) turn self.old ≡ (self.new, Ok tt) }
     {
         self.set_register(register, minus(self.register(register), 1));
-        self.count_back(register, count);
+        if !is_zero(self.register(register)) {
+            let back = 2 * u16::from(count.words());
+            self.set_register(Register::Pc, minus(self.register(Register::Pc), back));
+        }
+    }
+
+    /// MARK.
+    #[inline(always)]
+    pub fn mark(&mut self, turn: TurnNumber, count: Count) -> Result<(), Trap>
+        ensures { execute_of (Op.Mark count) turn self.old ≡ (self.new, result) }
+    {
+        match self.mark_apart(turn, count) {
+            Ok(()) => Ok(()),
+            Err(trap) => Err(trap),
+        }
     }
 }

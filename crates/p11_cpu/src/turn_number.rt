@@ -1,4 +1,4 @@
-ghost use Rattle.std.specs.Prelude.{◌≡◌, ◌≤◌, ◌<◌, ◌+◌, ◌^◌};
+ghost use Rattle.std.specs.Prelude.{◌≡◌, ◌≤◌, ◌<◌, ◌+◌, ◌-◌, ◌^◌};
 
 use std::marker::Model;
 
@@ -36,6 +36,27 @@ impl TurnNumber {
         TurnNumber {
             number: self.number + 1,
         }
+    }
+
+    /// The number before. It is out of line, so that the loop of instructions needn't keep that number.
+    #[cold]
+    #[inline(never)]
+    pub fn before(self) -> Self
+        requires { 0 < self }
+        ensures { result + 1 ≡ self }
+    {
+        TurnNumber {
+            number: self.number - 1,
+        }
+    }
+
+    /// How many turns it is after another.
+    pub fn since(self, turns: TurnNumber) -> u32
+        requires after { turns ≤ self }
+        requires fits { self - turns < 2 ^ 32 }
+        ensures { result ≡ self - turns }
+    {
+        (self.number - turns.number) as u32
     }
 
     /// The number of the turn that many turns later.

@@ -1,5 +1,7 @@
-ghost use Rattle.std.specs.Prelude.{◌≡◌, ◌<◌, ◌%◌, ◌/◌, ◌++◌};
-ghost use Rattle.p11_decode.specs.Table.{code_rows, control_rows, double_rows, first_fit, in_register, mode_at, named_codes, op_of, operand_at, operate_rows, register_at, register_rows, return_rows, single_rows, size, sized_double_rows, trap_rows};
+//! From a word to its instruction.
+ghost use Rattle.std.specs.Prelude.{◌≡◌, ◌<◌, ◌%◌, ◌/◌};
+ghost use Rattle.p11_decode.specs.Table.{first_fit, in_register, mode_at, named_codes, op_of, operand_at, register_at, size};
+ghost use Rattle.p11_decode.specs.Calls.Rows.{from_single, from_sized_double, from_double, from_register, from_branch, from_return, from_trap, from_operate, from_codes};
 
 use crate::groups::{CodesOp, CompareOp, ModifyOp, ReturnOp, SingleOp, StoreOnlyOp, TrapOp};
 use crate::op::{Condition, Count, NamedCodes, Op};
@@ -91,7 +93,7 @@ fn named_codes_of(word: u16) -> NamedCodes
     }
 }
 
-/// The instruction that a word is.
+/// The instruction that a word is, by the instruction table; a word that is none is reserved.
 #[tactic(auto, unfolding(crate::specs::Table::op_of))]
 pub fn decode(word: u16) -> Op
     ensures { result ≡ op_of word }
@@ -116,7 +118,7 @@ pub fn decode(word: u16) -> Op
 }
 
 fn decode_single(word: u16) -> Op
-    ensures { result ≡ first_fit (single_rows ++ (sized_double_rows ++ (double_rows ++ (register_rows ++ control_rows)))) word }
+    ensures { result ≡ first_fit from_single word }
 {
     let destination = operand_of(word);
     match word & 0o177700 {
@@ -131,7 +133,7 @@ fn decode_single(word: u16) -> Op
 }
 
 fn decode_sized_double(word: u16) -> Op
-    ensures { result ≡ first_fit (sized_double_rows ++ (double_rows ++ (register_rows ++ control_rows))) word }
+    ensures { result ≡ first_fit from_sized_double word }
 {
     let size = size_of(word);
     let source = operand_of(word >> 6);
@@ -147,7 +149,7 @@ fn decode_sized_double(word: u16) -> Op
 }
 
 fn decode_double(word: u16) -> Op
-    ensures { result ≡ first_fit (double_rows ++ (register_rows ++ control_rows)) word }
+    ensures { result ≡ first_fit from_double word }
 {
     let source = operand_of(word >> 6);
     let destination = operand_of(word);
@@ -159,7 +161,7 @@ fn decode_double(word: u16) -> Op
 }
 
 fn decode_with_register(word: u16) -> Op
-    ensures { result ≡ first_fit (register_rows ++ control_rows) word }
+    ensures { result ≡ first_fit from_register word }
 {
     let register = first_register(word);
     let operand = operand_of(word);
@@ -176,7 +178,7 @@ fn decode_with_register(word: u16) -> Op
 }
 
 fn decode_branch(word: u16) -> Op
-    ensures { result ≡ first_fit control_rows word }
+    ensures { result ≡ first_fit from_branch word }
 {
     let offset = (word & 0o377) as u8;
     match word & 0o177400 {
@@ -200,7 +202,7 @@ fn decode_branch(word: u16) -> Op
 }
 
 fn decode_return(word: u16) -> Op
-    ensures { result ≡ first_fit (return_rows ++ (trap_rows ++ (operate_rows ++ code_rows))) word }
+    ensures { result ≡ first_fit from_return word }
 {
     match word & 0o177770 {
         0o000200 => Op::Rts(register_of(word & 7)),
@@ -209,7 +211,7 @@ fn decode_return(word: u16) -> Op
 }
 
 fn decode_trap(word: u16) -> Op
-    ensures { result ≡ first_fit (trap_rows ++ (operate_rows ++ code_rows)) word }
+    ensures { result ≡ first_fit from_trap word }
 {
     match word & 0o177400 {
         0o104000 => Op::Trap(TrapOp::Emt),
@@ -219,7 +221,7 @@ fn decode_trap(word: u16) -> Op
 }
 
 fn decode_operate(word: u16) -> Op
-    ensures { result ≡ first_fit (operate_rows ++ code_rows) word }
+    ensures { result ≡ first_fit from_operate word }
 {
     match word {
         0o000000 => Op::Halt,
@@ -234,7 +236,7 @@ fn decode_operate(word: u16) -> Op
 }
 
 fn decode_codes(word: u16) -> Op
-    ensures { result ≡ first_fit code_rows word }
+    ensures { result ≡ first_fit from_codes word }
 {
     match word & 0o177760 {
         0o000240 => Op::Codes(CodesOp::Clear, named_codes_of(word)),

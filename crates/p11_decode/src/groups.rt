@@ -64,7 +64,7 @@ pub enum TrapOp {
     Trap,
 }
 
-/// Returns from a trap or an interrupt.
+/// The returns from a trap or an interrupt, RTI and RTT.
 #[derive(Clone, Copy)]
 pub enum ReturnOp {
     Rti,

@@ -1,3 +1,4 @@
+//! What the instruction table says of every word.
 ghost use Rattle.std.specs.Prelude.{◌≡◌, ◌≤◌, All, IsTrue, count_by};
 ghost use Rattle.p11_decode.specs.Table.{fits, op_of, table};
 ghost use Rattle.p11_decode.specs.declared.op.Op.TheVariants.{Reserved};

@@ -1,3 +1,4 @@
+//! An instruction and its operands.
 ghost use Rattle.std.specs.Prelude.{◌≡◌, ℕ, ◌<◌};
 
 use crate::groups::{CodesOp, CompareOp, ModifyOp, ReturnOp, SingleOp, StoreOnlyOp, TrapOp};
@@ -65,7 +66,7 @@ impl Model for Count {
 }
 
 impl Count {
-    /// The count of that many words.
+    /// The count of that many words, the operand of MARK.
     pub fn new(words: u8) -> Self
         requires { words < 64 }
         ensures { result ≡ words }
@@ -73,7 +74,7 @@ impl Count {
         Count { words }
     }
 
-    /// How many words it counts.
+    /// How many words it counts, the operand of MARK.
     pub fn words(self) -> u8
         ensures value { result ≡ self }
         ensures range { result < 64 }

@@ -2,8 +2,8 @@
 use Rattle.std.proofs.Common.{◌≡◌, ℕ, Bool, true, false, not, ◌||◌, List, [], ◌∷◌, ◌++◌, Option, Result, Ok, Err, IfOk, IfErr, inl, inr, refl, sym, ap, subst, ◌∙◌, append_assoc, append-nil}
 use Rattle.std.specs.Bool.{MatchBool}
 use Rattle.std.specs.List.{flat_map}
-use Rattle.std.specs.Io.KnownBytes.{Appends}
-use Rattle.std.proofs.KnownBytes.{Appends-nil, Appends-trans}
+use Rattle.std.specs.Io.KnownBytes.{Appends, Keeps}
+use Rattle.std.proofs.KnownBytes.{Appends-nil, Appends-trans, Appends-kept}
 use Rattle.p11_lines.specs.declared.answer.Answer.{Answer}
 use Rattle.p11_lines.specs.declared.line.Line.{Line}
 use Rattle.p11_panel.specs.Session.{SessionState, Obeys}
@@ -89,3 +89,20 @@ begun opening now e = (
 pub asks_for : {V : Type 0} (bytes_of : V → List ℕ) (r : Result V StoreError) (name : List ℕ) (s s' : StoreState) → IfOk r (λ v. Fetches s name (bytes_of v) s') → IfErr r (λ e. FailsToFetch s name e s') → AsksFor name s s'
 asks_for bytes_of (Ok v) name s s' ok err = inl (bytes_of v, ok)
 asks_for bytes_of (Err e) name s s' ok err = inr (e, err)
+
+kept_on : (torn : Bool) (a b c : Option (List ℕ)) (text : List ℕ) → WrittenUnless torn a b text → Keeps b c → WrittenUnless torn a c text
+kept_on true a b c text so_far kept =
+    record { front = so_far.front; rest = so_far.rest; written = Appends-kept a b c so_far.front so_far.written kept; split = so_far.split }
+kept_on false a b c text so_far kept = Appends-kept a b c text so_far kept
+
+-- nothing is done, and the record's writer keeps what it has
+pub kept_journal : {A : Type 0} (screen_torn journal_torn : Bool) (opening old new : Scene) → (deeds : List (Deed A)) × Dialogue deeds screen_torn journal_torn opening old → new.session ≡ old.session → new.screen ≡ old.screen → Keeps old.journal new.journal → (deeds : List (Deed A)) × Dialogue deeds screen_torn journal_torn opening new
+kept_journal {A} screen_torn journal_torn opening old new so_far session screen journal =
+    let d : Dialogue so_far.0 screen_torn journal_torn opening old = so_far.1 in (
+      so_far.0,
+      record {
+        done = subst (λ (s : SessionState). Happen so_far.0 opening.session s) (sym session) d.done;
+        typed = subst (λ (t : Option (List ℕ)). WrittenUnless screen_torn opening.screen t (flat_map typed_by so_far.0)) (sym screen) d.typed;
+        kept = kept_on journal_torn opening.journal old.journal new.journal (flat_map recorded_of so_far.0) d.kept journal;
+      },
+    )

@@ -5,11 +5,11 @@ ghost use Rattle.std.specs.Io.KnownBytes.{Appends};
 ghost use Rattle.p11_dialogue.specs.Deeds.{Deed, Dialogue, Fronts, ended, recorded, run_recorded, scene, typed_in};
 
 use crate::obey::obey;
+use crate::tapes::TapeNote;
 use crate::whole::write_whole;
 use arrayvec::ArrayVec;
 use itoa::Buffer;
 use p11_panel::{Answer, Bytes, Command, Devices, Fault, Line, Panel, Store, StoreError, line_of};
-use p11_tape::TapeFault;
 use std::alloc::Allocator;
 use std::io::Write;
 use std::marker::{Brand, Model, PhantomData};
@@ -40,8 +40,8 @@ pub(crate) struct Desk<A: Allocator, S: Store, T: Write, L: Write, O: Opening> {
     journal: L,
     is_screen_torn: bool,
     is_journal_torn: bool,
-    /// What was wrong with the last bytes that were no tape.
-    wrong: Option<TapeFault>,
+    /// What there is to say of the last line's tape.
+    note: TapeNote,
     of: PhantomData<O>,
 }
 
@@ -78,6 +78,19 @@ pub struct Parting<A: Allocator, S, T, L> {
     pub is_console_torn: bool,
     /// Whether a read of the keyboard failed.
     pub has_read_fault: bool,
+    /// Whether a line of a script was refused.
+    pub has_refused: bool,
+    /// Whether a script couldn't be had.
+    pub lacks_script: bool,
+}
+
+/// What the console and the keyboard came to.
+#[derive(Clone, Copy)]
+pub(crate) struct Ending {
+    pub(crate) is_console_torn: bool,
+    pub(crate) has_read_fault: bool,
+    pub(crate) has_refused: bool,
+    pub(crate) lacks_script: bool,
 }
 
 impl<A: Allocator + Copy, S: Store, T: Write, L: Write, O: Opening> Desk<A, S, T, L, O> {
@@ -99,13 +112,13 @@ impl<A: Allocator + Copy, S: Store, T: Write, L: Write, O: Opening> Desk<A, S, T
             journal,
             is_screen_torn: false,
             is_journal_torn: false,
-            wrong: None,
+            note: TapeNote::Good,
             of: PhantomData,
         }
     }
 
-    /// What is left of it, beside what the console's writer and the keyboard came to.
-    pub(crate) fn part(self, is_console_torn: bool, has_read_fault: bool) -> Parting<A, S, T, L>
+    /// What is left of it, beside what the console and the keyboard came to.
+    pub(crate) fn part(self, ending: Ending) -> Parting<A, S, T, L>
         ensures { (deeds : List (Deed A)) × Dialogue deeds result.is_screen_torn result.is_journal_torn O.opening
             (scene result.station.panel (S.state result.station.store) (T.contents result.station.screen)
             (L.contents result.station.journal)) }
@@ -117,7 +130,7 @@ impl<A: Allocator + Copy, S: Store, T: Write, L: Write, O: Opening> Desk<A, S, T
             journal,
             is_screen_torn,
             is_journal_torn,
-            wrong: _,
+            note: _,
             of: _,
         } = self;
         let station = Station {
@@ -130,8 +143,10 @@ impl<A: Allocator + Copy, S: Store, T: Write, L: Write, O: Opening> Desk<A, S, T
             station,
             is_screen_torn,
             is_journal_torn,
-            is_console_torn,
-            has_read_fault,
+            is_console_torn: ending.is_console_torn,
+            has_read_fault: ending.has_read_fault,
+            has_refused: ending.has_refused,
+            lacks_script: ending.lacks_script,
         }
     }
 
@@ -142,9 +157,9 @@ impl<A: Allocator + Copy, S: Store, T: Write, L: Write, O: Opening> Desk<A, S, T
         self.is_screen_torn || self.is_journal_torn
     }
 
-    /// What was wrong with the last bytes that were no tape.
-    pub(crate) fn wrong_tape(&self) -> Option<TapeFault> {
-        self.wrong
+    /// What there is to say of the last line's tape.
+    pub(crate) fn tape_note(&self) -> TapeNote {
+        self.note
     }
 
     /// Does a line, shows what was typed, and records the line. `None`: a writer had failed before, and nothing is
@@ -156,13 +171,13 @@ impl<A: Allocator + Copy, S: Store, T: Write, L: Write, O: Opening> Desk<A, S, T
         let Some(text) = record_line(alloc, &line) else {
             return Some(Answer::Refused(Fault::NoMemory));
         };
-        self.wrong = None;
+        self.note = TapeNote::Good;
         let answer = obey(
             alloc,
             &mut self.panel,
             &mut self.store,
             line,
-            &mut self.wrong,
+            &mut self.note,
         );
         self.is_screen_torn = !show(&mut self.screen, &answer);
         self.is_journal_torn = !keep(&mut self.journal, text.as_slice(), &answer);
@@ -187,6 +202,19 @@ impl<A: Allocator + Copy, S: Store, T: Write, L: Write, O: Opening> Desk<A, S, T
             Answer::Devices(devices) => Some(devices),
             _ => None,
         }
+    }
+
+    /// Why the pack on a drive can't be saved, where it can't. Nothing changes.
+    pub(crate) fn save_refusal(&mut self, alloc: A, drive: u32) -> Option<Fault> {
+        match self.panel.act(alloc, &Command::Save { drive }) {
+            Answer::Refused(fault) => Some(fault),
+            _ => None,
+        }
+    }
+
+    /// A run is over: what is recorded from here on is of another.
+    pub(crate) fn end_run(&mut self) {
+        let _ = self.journal.flush();
     }
 
     /// All that the pack on a drive holds, where there is one and memory for it. Nothing changes.

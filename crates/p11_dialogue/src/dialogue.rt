@@ -1,49 +1,29 @@
 // The dialogue at the console.
-ghost use Rattle.std.specs.Prelude.{List};
-ghost use Rattle.p11_dialogue.specs.Deeds.{Deed, Dialogue, scene};
-
 use crate::console::Console;
-use crate::desk::{Desk, Opening, Parting};
+use crate::desk::Opening;
 use crate::help::{say_all, say_one};
-use crate::keyboard::{Input, Keyboard, Waiting};
+use crate::host::Host;
+use crate::keyboard::Keyboard;
+use crate::lines::Origin;
+use crate::names::Names;
 use crate::prompt::{Entry, LineTyped, read_line};
-use crate::reasons::{Explain, misfit_of, say_no_script, say_reason};
-use crate::running::{Course, End, Run, make_run, reason_word};
-use crate::unsaved::{Change, SavedPacks, change_of};
+use crate::reasons::misfit_of;
+use crate::seat::Seat;
 use crate::verb::Verb;
-use crate::wording::{first_word, is_silent, next_line};
-use p11_panel::{Answer, Fault, Line, Store, parse_line};
+use crate::wording::{first_word, is_silent};
+use p11_panel::{Answer, Fault, Store};
 use std::alloc::Allocator;
 use std::io::Write;
 
-/// The most bytes of a line, without its end.
-const MOST_BYTES: usize = 4096;
-
 /// What comes after a line.
 #[derive(Clone, Copy)]
-enum Next {
+pub(crate) enum Next {
     /// The next line.
     Line,
     /// The end: it was asked for.
     Quit,
     /// The end: the input has none left, or a writer failed.
     End,
-}
-
-/// The console, and all that stands on it.
-pub(crate) struct Seat<A: Allocator, S: Store, T: Write, L: Write, O: Opening, K, W, E> {
-    alloc: A,
-    desk: Desk<A, S, T, L, O>,
-    input: Input<K>,
-    console: Console<W>,
-    files: E,
-    waiting: Waiting,
-    saved: SavedPacks<A>,
-    slice: u32,
-    /// Whether the packs that no file has were told of, and nothing was done since.
-    is_warned: bool,
-    /// Whether it was said how one comes back from the machine's terminal.
-    is_told: bool,
 }
 
 impl<
@@ -54,56 +34,21 @@ impl<
     O: Opening,
     K: Keyboard + Drop,
     W: Write + Drop,
-    E: Explain + Drop,
+    E: Host + Drop,
 > Seat<A, S, T, L, O, K, W, E> {
-    pub(crate) fn new(
-        alloc: A,
-        desk: Desk<A, S, T, L, O>,
-        input: Input<K>,
-        console: Console<W>,
-        files: E,
-        slice: u32,
-    ) -> Self {
-        Seat {
-            alloc,
-            desk,
-            input,
-            console,
-            files,
-            waiting: Waiting::new(),
-            saved: SavedPacks::new(alloc),
-            slice,
-            is_warned: false,
-            is_told: false,
-        }
-    }
-
-    /// Leaves it: what is left.
-    pub(crate) fn part(self) -> Parting<A, S, T, L>
-        ensures { (deeds : List (Deed A)) × Dialogue deeds result.is_screen_torn result.is_journal_torn O.opening
-            (scene result.station.panel (S.state result.station.store) (T.contents result.station.screen)
-            (L.contents result.station.journal)) }
-    {
-        let Seat {
-            alloc: _,
-            desk,
-            input,
-            console,
-            files: _,
-            waiting: _,
-            saved: _,
-            slice: _,
-            is_warned: _,
-            is_told: _,
-        } = self;
-        desk.part(console.is_torn(), input.has_failed())
-    }
-
     /// Holds the dialogue to its end.
     pub(crate) fn hold(&mut self, script: Option<&[u8]>, is_talk: bool) {
         if let Some(name) = script {
             self.do_script(name);
         }
+        if !self.is_batch {
+            self.converse(is_talk);
+        }
+        self.tell_of_unwritten();
+    }
+
+    /// Does what the keyboard says, to its end.
+    fn converse(&mut self, is_talk: bool) {
         if is_talk && self.can_go_on() && self.talk() == Next::End {
             return;
         }
@@ -123,11 +68,7 @@ impl<
         }
     }
 
-    /// Whether no writer has failed.
-    fn can_go_on(&self) -> bool {
-        !self.desk.is_torn() && !self.console.is_torn()
-    }
-
+    /// Refuses a line that is too long.
     fn refuse_long(&mut self) -> Next {
         let answer = Answer::<A>::Refused(Fault::BadLine);
         self.console.answer(&answer);
@@ -136,7 +77,7 @@ impl<
     }
 
     /// The end of the input.
-    fn end(&mut self) -> Next {
+    pub(crate) fn end(&mut self) -> Next {
         if !self.input.is_terminal() {
             self.tell();
             return Next::End;
@@ -187,7 +128,7 @@ impl<
         }
         match verb {
             Some(Verb::Quit | Verb::Help | Verb::Talk | Verb::Do) if misfit_of(line).is_some() => {
-                self.refuse(line, Fault::BadLine);
+                self.refuse(line, Fault::BadLine, Origin::Typed);
                 Next::Line
             }
             Some(Verb::Quit) => self.quit(),
@@ -202,11 +143,11 @@ impl<
             }
             Some(Verb::Continue) if first_word(rest).0.is_empty() => self.talk(),
             Some(Verb::Step) if first_word(rest).0.is_empty() => {
-                self.run_by_count(1, false);
+                self.run_by_count(1, false, Origin::Typed);
                 Next::Line
             }
             _ => {
-                self.obey(line);
+                self.obey(line, Origin::Typed);
                 Next::Line
             }
         }
@@ -219,149 +160,25 @@ impl<
         }
     }
 
-    /// Says why a line is refused.
-    fn refuse(&mut self, line: &[u8], fault: Fault) {
-        let answer = Answer::<A>::Refused(fault);
-        self.console.answer(&answer);
-        say_reason(
-            &mut self.console,
-            &self.files,
-            line,
-            fault,
-            self.desk.wrong_tape(),
-        );
-    }
-
-    /// Does a line of the console's language.
-    fn obey(&mut self, text: &[u8]) {
-        match parse_line(self.alloc, text) {
-            Err(fault) => self.refuse(text, fault),
-            Ok(Line::Step { turns }) => self.run_by_count(turns, false),
-            Ok(Line::Continue { turns }) => self.run_by_count(turns, true),
-            Ok(line) => self.obey_line(text, line),
-        }
-    }
-
-    /// Does a line that makes no turns.
-    fn obey_line(&mut self, text: &[u8], line: Line<A>) {
-        let change = change_of(&line);
-        match self.desk.attempt(self.alloc, line) {
-            None => {}
-            Some(Answer::Refused(fault)) => self.refuse(text, fault),
-            Some(answer) => {
-                self.console.answer(&answer);
-                match change {
-                    Change::None => {}
-                    Change::Pack(drive) => self.saved.forget(drive),
-                    Change::Saved(drive) => self.saved.note(self.alloc, &mut self.desk, drive),
-                }
-            }
-        }
-    }
-
-    /// Makes a run of so many turns.
-    fn run_by_count(&mut self, turns: u32, until_idle: bool) {
-        let course = Course {
-            slice: self.slice,
-            turns: Some(turns.min(100_000_000)),
-            until_idle,
-            has_keys: self.input.is_terminal(),
-        };
-        if turns > 100_000_000 {
-            self.refuse(b"step", Fault::TooMany);
+    /// Tells of the files that no `save` wrote, since none was to.
+    fn tell_of_unwritten(&mut self) {
+        if self.unwritten.is_empty() {
             return;
         }
-        self.run(&course);
+        if self.is_batch {
+            say_unwritten(&mut self.errors, &self.unwritten);
+        } else {
+            say_unwritten(&mut self.console, &self.unwritten);
+        }
     }
+}
 
-    /// Sits at the machine's terminal.
-    fn talk(&mut self) -> Next {
-        if self.input.is_terminal() && !self.is_told {
-            self.is_told = true;
-            self.console.say("(Ctrl-E comes back to the console.)\n");
-        }
-        let course = Course {
-            slice: self.slice,
-            turns: None,
-            until_idle: false,
-            has_keys: true,
-        };
-        match self.run(&course) {
-            End::Ended => self.end(),
-            End::Torn => Next::End,
-            End::Stopped(_) | End::Escaped | End::Refused(_) => Next::Line,
-        }
+/// Says which files no `save` wrote.
+fn say_unwritten<A: Allocator + Copy, W: Write>(console: &mut Console<W>, names: &Names<A>) {
+    console.say("--no-save: not written:");
+    for name in names.as_slice() {
+        console.say(" ");
+        console.put(name.as_slice());
     }
-
-    /// Makes a run, and says how it ended.
-    fn run(&mut self, course: &Course) -> End {
-        let mut run = Run {
-            turns: 0,
-            pc: 0,
-            last: None,
-        };
-        let end = make_run(
-            self.alloc,
-            &mut self.desk,
-            &mut self.input,
-            &mut self.console,
-            &mut self.waiting,
-            course,
-            &mut run,
-        );
-        if run.last.is_some() && run.last != Some(b'\n') {
-            self.console.say("\n");
-        }
-        match end {
-            End::Stopped(reason) => self.say_stop(reason_word(reason), &run),
-            End::Escaped => self.say_stop("key", &run),
-            End::Refused(fault) => self.refuse(b"step", fault),
-            End::Ended | End::Torn => {}
-        }
-        end
-    }
-
-    fn say_stop(&mut self, reason: &str, run: &Run) {
-        self.console.say("STOP ");
-        self.console.say(reason);
-        self.console.say(" ");
-        self.console.number(run.turns);
-        self.console.say(" ");
-        self.console.word(run.pc);
-        self.console.say("\n");
-    }
-
-    /// Does the lines of a script.
-    fn do_script(&mut self, name: &[u8]) {
-        match self.desk.script(self.alloc, name) {
-            None => {}
-            Some(Err(error)) => {
-                let answer = Answer::<A>::Refused(Fault::StoreFault);
-                self.console.answer(&answer);
-                say_no_script(&mut self.console, &self.files, name, error);
-            }
-            Some(Ok(text)) => self.do_lines(text.as_slice()),
-        }
-    }
-
-    fn do_lines(&mut self, text: &[u8]) {
-        let mut rest = text;
-        for _ in 0..u64::MAX {
-            if rest.is_empty() || !self.can_go_on() {
-                return;
-            }
-            let (line, after) = next_line(rest);
-            rest = after;
-            self.do_script_line(line);
-        }
-    }
-
-    /// Does a line of a script.
-    fn do_script_line(&mut self, line: &[u8]) {
-        if line.len() > MOST_BYTES {
-            self.refuse_long();
-        } else if !is_silent(line) {
-            self.obey(line);
-        }
-    }
+    console.say("\n");
 }

@@ -105,6 +105,17 @@ impl<K: Keyboard> Input<K> {
             None => Press::Nothing,
         }
     }
+
+    /// The next byte, for which it reads only if it is the first one that is asked for.
+    pub(crate) fn further(&mut self, is_first: bool) -> Press {
+        if is_first {
+            return self.next();
+        }
+        match self.buffered() {
+            Some(byte) => Press::Byte(byte),
+            None => Press::Nothing,
+        }
+    }
 }
 
 /// Keys that wait for room in the machine, the first pressed first.

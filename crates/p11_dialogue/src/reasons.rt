@@ -1,19 +1,13 @@
 // Why a line is refused, in a sentence.
 use crate::console::Console;
+use crate::host::Host;
+use crate::lines::Place;
+use crate::tapes::TapeNote;
 use crate::verb::{Part, Verb};
 use crate::wording::{first_word, word_behind};
 use p11_panel::{Fault, StoreError};
 use p11_tape::{TapeFault, TapeFaultKind};
 use std::io::Write;
-
-/// Who knows why a file of the store can't be read or written.
-pub trait Explain {
-    /// Why the bytes under a name can't be had.
-    fn why_not_read(&self, name: &[u8]) -> &'static str;
-
-    /// Why nothing can be left under a name.
-    fn why_not_written(&self, name: &[u8]) -> &'static str;
-}
 
 /// What is wrong with a line that isn't in the language.
 #[derive(Clone, Copy)]
@@ -112,7 +106,13 @@ fn say_form<W: Write>(console: &mut Console<W>, name: &[u8]) {
 /// A word in quotation marks.
 fn quote<W: Write>(console: &mut Console<W>, word: &[u8]) {
     console.say("\"");
-    for byte in word {
+    say_clean(console, word);
+    console.say("\"");
+}
+
+/// Bytes, of which those that are no graphic character or space are shown as `?`.
+fn say_clean<W: Write>(console: &mut Console<W>, bytes: &[u8]) {
+    for byte in bytes {
         let shown = if *byte < b' ' || *byte > b'~' {
             b'?'
         } else {
@@ -120,26 +120,82 @@ fn quote<W: Write>(console: &mut Console<W>, word: &[u8]) {
         };
         console.put(&[shown]);
     }
-    console.say("\"");
 }
 
 /// Says why a line was refused, in a sentence behind the refusal.
-pub(crate) fn say_reason<E: Explain, W: Write>(
+pub(crate) fn say_reason<E: Host, W: Write>(
     console: &mut Console<W>,
-    files: &E,
+    host: &E,
     line: &[u8],
     fault: Fault,
-    tape: Option<TapeFault>,
+    note: TapeNote,
 ) {
     console.say("  ");
+    if fault == Fault::StoreFault {
+        let file = file_of(line);
+        console.put(file);
+        console.say(": ");
+        console.say(why_not(host, line));
+    } else {
+        say_why(console, host, line, fault, note);
+    }
+    console.say(".\n");
+}
+
+/// Says that the line of a script was refused, and why, with its place.
+pub(crate) fn say_refusal_at<E: Host, W: Write>(
+    console: &mut Console<W>,
+    host: &E,
+    place: Place<'_>,
+    line: &[u8],
+    fault: Fault,
+    note: TapeNote,
+) {
+    say_at(console, place, line);
+    console.say("? ");
+    console.number(u64::from(fault.number()));
+    console.say(" ");
+    console.say(fault.name());
+    console.say(": ");
+    say_why(console, host, line, fault, note);
+    console.say("\n");
+}
+
+/// The most bytes of a line that are shown with its place.
+const MOST_SHOWN: usize = 200;
+
+/// Says where a line of a script stands, and which it is.
+pub(crate) fn say_at<W: Write>(console: &mut Console<W>, place: Place<'_>, line: &[u8]) {
+    console.put(place.script);
+    console.say(":");
+    console.number(place.number);
+    console.say(": ");
+    say_clean(console, &line[..line.len().min(MOST_SHOWN)]);
+    if line.len() > MOST_SHOWN {
+        console.say(" ..");
+    }
+    console.say(": ");
+}
+
+/// Says why a line was refused.
+fn say_why<E: Host, W: Write>(
+    console: &mut Console<W>,
+    host: &E,
+    line: &[u8],
+    fault: Fault,
+    note: TapeNote,
+) {
     match fault {
         Fault::BadLine => say_misfit(console, line),
-        Fault::StoreFault => say_file(console, files, line),
-        Fault::BadTape => say_tape(console, tape),
+        Fault::StoreFault => {
+            console.say(why_not(host, line));
+            console.say(": ");
+            console.put(file_of(line));
+        }
+        Fault::BadTape => say_note(console, note),
         Fault::TooMany => say_too_many(console, line),
         other => console.say(sentence(other)),
     }
-    console.say(".\n");
 }
 
 /// The sentence of a refusal that speaks of nothing else.
@@ -174,38 +230,51 @@ fn say_too_many<W: Write>(console: &mut Console<W>, line: &[u8]) {
     });
 }
 
-/// Says which file, and why.
-fn say_file<E: Explain, W: Write>(console: &mut Console<W>, files: &E, line: &[u8]) {
+/// The file that a line names.
+fn file_of(line: &[u8]) -> &[u8] {
     let (name, rest) = first_word(line);
-    let verb = Verb::named(name);
-    let others = match verb {
+    let others = match Verb::named(name) {
         Some(Verb::Mount) | Some(Verb::Save) => 1,
         _ => 0,
     };
-    let file = word_behind(rest, others);
-    console.put(file);
-    console.say(": ");
-    console.say(match verb {
-        Some(Verb::Save) => files.why_not_written(file),
-        _ => files.why_not_read(file),
-    });
+    word_behind(rest, others)
+}
+
+/// Why the file that a line names can't be had or written.
+fn why_not<E: Host>(host: &E, line: &[u8]) -> &'static str {
+    let file = file_of(line);
+    match Verb::named(first_word(line).0) {
+        Some(Verb::Save) => host.why_not_written(file),
+        _ => host.why_not_read(file),
+    }
 }
 
 /// Says why a script can't be had.
-pub(crate) fn say_no_script<E: Explain, W: Write>(
+pub(crate) fn say_no_script<E: Host, W: Write>(
     console: &mut Console<W>,
-    files: &E,
+    host: &E,
     name: &[u8],
     error: StoreError,
 ) {
-    console.say("  ");
     console.put(name);
     console.say(": ");
     console.say(match error {
-        StoreError::Refused => files.why_not_read(name),
+        StoreError::Refused => host.why_not_read(name),
         StoreError::NoMemory => "there is no memory left for it",
     });
-    console.say(".\n");
+}
+
+/// Says what is wrong with a tape.
+fn say_note<W: Write>(console: &mut Console<W>, note: TapeNote) {
+    match note {
+        TapeNote::Label(at) => {
+            console.say("a label seems to be punched in front: the first block begins at byte ");
+            console.number(at as u64);
+            console.say(", and examples/without-label cuts off what is before it");
+        }
+        TapeNote::Wrong(fault) => say_tape(console, Some(fault)),
+        _ => say_tape(console, None),
+    }
 }
 
 /// Says what is wrong with a tape, and at which byte.

@@ -62,32 +62,66 @@ enum Look {
     Ended,
 }
 
-/// Takes what a person has pressed.
-fn look_at_keys<K: Keyboard, W: Write>(
-    input: &mut Input<K>,
-    console: &mut Console<W>,
-    waiting: &mut Waiting,
-) -> Look {
+/// So many slices in a row in which the machine takes none of the keys that wait. Behind them further keys are dropped,
+/// up to Ctrl-E.
+const PATIENCE: u32 = 200;
+
+/// Turns of a slice, at most, behind keys that were pressed: the 64 that the machine holds take 64 turns each.
+const KEY_TURNS: u32 = 4096;
+
+/// Takes what a person has pressed, as far as there is room for it: what is left isn't read.
+fn look_at_keys<K: Keyboard>(input: &mut Input<K>, waiting: &mut Waiting) -> Look {
     let mut found = Look::Nothing;
-    let mut press = input.next();
     for _ in 0..u64::MAX {
-        match press {
+        if waiting.is_full() {
+            return Look::Pressed;
+        }
+        match input.further(found == Look::Nothing) {
             Press::Byte(ESCAPE) => return Look::Escaped,
             Press::Byte(key) => {
                 found = Look::Pressed;
-                if !waiting.push(key) {
-                    console.say("\x07");
-                }
+                waiting.push(key);
             }
             Press::Nothing => return found,
             Press::End => return Look::Ended,
         }
-        press = match input.buffered() {
-            Some(byte) => Press::Byte(byte),
-            None => Press::Nothing,
-        };
     }
     found
+}
+
+/// Drops what a read gives, up to Ctrl-E.
+fn drop_keys<K: Keyboard, W: Write>(input: &mut Input<K>, console: &mut Console<W>) -> Look {
+    let mut found = Look::Nothing;
+    for _ in 0..u64::MAX {
+        match input.further(found == Look::Nothing) {
+            Press::Byte(ESCAPE) => return Look::Escaped,
+            Press::Byte(_) => found = Look::Pressed,
+            Press::Nothing => break,
+            Press::End => return Look::Ended,
+        }
+    }
+    if found == Look::Pressed && input.is_terminal() {
+        console.say("\x07");
+    }
+    found
+}
+
+/// Asks the keyboard, where keys go to the machine.
+fn ask_keyboard<K: Keyboard>(
+    course: &Course,
+    input: &mut Input<K>,
+    waiting: &mut Waiting,
+    is_quiet: bool,
+) -> Look {
+    if !course.has_keys {
+        Look::Nothing
+    } else if input.is_terminal() {
+        look_at_keys(input, waiting)
+    } else if is_quiet && waiting.is_empty() {
+        take_line(input, waiting)
+    } else {
+        Look::Nothing
+    }
 }
 
 /// Takes the next line of what isn't typed by a person, its end as a carriage return.
@@ -117,41 +151,43 @@ fn take_line<K: Keyboard>(input: &mut Input<K>, waiting: &mut Waiting) -> Look {
     found
 }
 
-/// Presses as many of the keys that wait as there is room for.
+/// Presses as many of the keys that wait as there is room for; whether one was pressed.
 fn press<A: Allocator + Copy, S: Store, T: Write, L: Write, O: Opening>(
     alloc: A,
     desk: &mut Desk<A, S, T, L, O>,
     waiting: &mut Waiting,
-) {
+) -> bool {
     if waiting.is_empty() {
-        return;
+        return false;
     }
     let Some(devices) = desk.devices(alloc) else {
-        return;
+        return false;
     };
     let room = 64u32.saturating_sub(devices.bus.keys) as usize;
     let keys = waiting.front(room);
     if keys.is_empty() {
-        return;
+        return false;
     }
     let count = keys.len();
     let Ok(text) = Vec::from_slice(alloc, keys) else {
-        return;
+        return false;
     };
     let text = Bytes::from_vec(text);
-    if let Some(Answer::Done) = desk.attempt(alloc, Line::Key { text }) {
-        waiting.drop_front(count);
+    match desk.attempt(alloc, Line::Key { text }) {
+        Some(Answer::Done) => {
+            waiting.drop_front(count);
+            true
+        }
+        _ => false,
     }
 }
 
-/// The turns of the next slice.
-fn next_turns(course: &Course, made: u64) -> u32 {
+/// The turns of the next slice, of so many at most.
+fn next_turns(course: &Course, made: u64, most: u32) -> u32 {
     match course.turns {
-        None => course.slice,
+        None => most,
         Some(turns) => {
-            let left = u64::from(turns)
-                .saturating_sub(made)
-                .min(u64::from(course.slice));
+            let left = u64::from(turns).saturating_sub(made).min(u64::from(most));
             left as u32
         }
     }
@@ -162,9 +198,10 @@ fn make_slice<A: Allocator + Copy, S: Store, T: Write, L: Write, O: Opening>(
     alloc: A,
     desk: &mut Desk<A, S, T, L, O>,
     course: &Course,
+    most: u32,
     run: &mut Run,
 ) -> Slice {
-    let turns = next_turns(course, run.turns);
+    let turns = next_turns(course, run.turns, most);
     let line = if course.until_idle || course.turns.is_none() {
         Line::Continue { turns }
     } else {
@@ -224,34 +261,56 @@ pub(crate) fn make_run<
     run: &mut Run,
 ) -> End {
     let mut is_quiet = false;
+    let mut stuck = 0u32;
     for _ in 0..u64::MAX {
-        let found = if !course.has_keys {
-            Look::Nothing
-        } else if input.is_terminal() {
-            look_at_keys(input, console, waiting)
-        } else if is_quiet && waiting.is_empty() {
-            take_line(input, waiting)
+        let found = if stuck < PATIENCE {
+            ask_keyboard(course, input, waiting, is_quiet)
         } else {
-            Look::Nothing
+            drop_keys(input, console)
         };
         match found {
             Look::Escaped => return End::Escaped,
             Look::Ended => return End::Ended,
             Look::Pressed | Look::Nothing => {}
         }
-        press(alloc, desk, waiting);
-        match make_slice(alloc, desk, course, run) {
+        let is_pressed = press(alloc, desk, waiting);
+        let most = if is_pressed {
+            course.slice.min(KEY_TURNS)
+        } else {
+            course.slice
+        };
+        let slice = make_slice(alloc, desk, course, most, run);
+        let is_idle = matches!(slice, Slice::Idle);
+        match slice {
             Slice::Went(has_typed) => is_quiet = !has_typed,
             Slice::Idle => {
                 is_quiet = true;
-                if input.is_terminal() && found == Look::Nothing && waiting.is_empty() {
+                if input.is_terminal()
+                    && !is_pressed
+                    && (found == Look::Nothing || waiting.is_full())
+                {
                     input.pause();
                 }
             }
             Slice::End(end) => return end,
         }
+        stuck = if is_pressed || !is_stuck(input.is_terminal(), waiting, is_idle) {
+            0
+        } else {
+            stuck.saturating_add(1)
+        };
     }
     End::Stopped(StopReason::Turns)
+}
+
+/// Whether keys wait that perhaps nobody will take: at a terminal all that there is room for; elsewhere some, of a
+/// machine that idles.
+fn is_stuck(is_terminal: bool, waiting: &Waiting, is_idle: bool) -> bool {
+    if is_terminal {
+        waiting.is_full()
+    } else {
+        is_idle && !waiting.is_empty()
+    }
 }
 
 /// The word for why a run stopped.

@@ -4,30 +4,21 @@ ghost use Rattle.p11_dialogue.specs.Deeds.{Deed, Dialogue, scene};
 
 use crate::console::Console;
 use crate::desk::{Desk, Opening, Parting, Station};
-use crate::dialogue::Seat;
+use crate::host::Host;
 use crate::keyboard::{Input, Keyboard};
-use crate::reasons::Explain;
+use crate::seat::{Seat, Wish};
 use p11_panel::Store;
 use std::alloc::Allocator;
 use std::io::Write;
 use std::marker::Brand;
 
-/// Who holds the dialogue: a keyboard, what the console says, and who knows why files can't be had.
+/// Who holds the dialogue: a keyboard, what the console says, what is said of a script that nobody watches, and who knows
+/// the host's files.
 pub struct Person<K, W, E> {
     pub keyboard: K,
     pub console: W,
-    pub files: E,
-}
-
-/// What is asked for.
-#[derive(Clone, Copy, PartialEq, Eq)]
-pub struct Wish<'a> {
-    /// The name of a file whose lines are done first.
-    pub script: Option<&'a [u8]>,
-    /// Whether the machine's terminal comes before the console.
-    pub is_talk: bool,
-    /// Turns between two looks at the keyboard, at most.
-    pub slice: u32,
+    pub errors: W,
+    pub host: E,
 }
 
 /// Holds a dialogue to its end. All that it does is a list of deeds: lines of the console's language that were tried,
@@ -41,7 +32,7 @@ pub fn converse<
     L: Write,
     K: Keyboard + Drop,
     W: Write + Drop,
-    E: Explain + Drop,
+    E: Host + Drop,
 >(
     alloc: A,
     station: Station<A, S, T, L>,
@@ -65,7 +56,7 @@ fn converse_from<
     O: Opening,
     K: Keyboard + Drop,
     W: Write + Drop,
-    E: Explain + Drop,
+    E: Host + Drop,
 >(
     alloc: A,
     station: Station<A, S, T, L>,
@@ -81,16 +72,17 @@ fn converse_from<
     let Person {
         keyboard,
         console,
-        files,
+        errors,
+        host,
     } = person;
     let desk: Desk<A, S, T, L, O> = Desk::new(station);
     let mut seat = Seat::new(
         alloc,
         desk,
         Input::new(keyboard),
-        Console::new(console),
-        files,
-        wish.slice,
+        (Console::new(console), Console::new(errors)),
+        host,
+        wish,
     );
     seat.hold(wish.script, wish.is_talk);
     seat.part()

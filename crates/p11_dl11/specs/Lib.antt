@@ -1,3 +1,4 @@
+-- The DL11 console line: its receiver, its transmitter, and their registers.
 pub mod StatusRegister
 pub mod ReceiverState
 pub mod ReceiverEvents

@@ -7,7 +7,8 @@ use Rattle.p11_dl11.specs.declared.register.Section.{Section}
 use Rattle.p11_dl11.specs.declared.register.Section.TheVariants.{Receiver, Transmitter}
 use Rattle.p11_dl11.specs.LineState.{LineState}
 use Rattle.p11_dl11.specs.ReceiverEvents.{most_keys, new_receiver, receiver_after_init, receiver_after_key, receiver_after_read, receiver_after_enable, receiver_after_service, receiver_after_turn}
-use Rattle.p11_dl11.specs.StatusRegister.{bit_of, section_word}
+use Rattle.p11_dl11.specs.StatusRegister.{section_word}
+use Rattle.p11_words.specs.Bits.{bit_of}
 use Rattle.p11_dl11.specs.TransmitterState.{is_ready}
 use Rattle.p11_dl11.specs.TransmitterEvents.{new_transmitter, transmitter_after_enable, transmitter_after_character, transmitter_after_service, transmitter_after_turn}
 

@@ -1,14 +1,7 @@
 -- What the two status registers have in common: a flag in bit 7, which asks for attention, and the interrupt enable in
 -- bit 6. Other bits read as 0, and a write takes bit 6 alone.
-use Rattle.std.specs.Prelude.{ℕ, ◌+◌, ◌/◌, ◌%◌, Bool, ◌==◌, ◌&&◌, ◌||◌, not, if◌then◌else◌}
-
--- a flag as a number: its weight or 0
-abbrev pub flag : Bool → ℕ → ℕ
-flag is_set weight = if is_set then weight else 0
-
--- the bit of a word that has this weight
-abbrev pub bit_of : ℕ → ℕ → Bool
-bit_of word weight = word / weight % 2 == 1
+use Rattle.std.specs.Prelude.{ℕ, ◌+◌, Bool, ◌&&◌, ◌||◌, not}
+use Rattle.p11_words.specs.Bits.{flag}
 
 -- the word of a section's status register: done or ready, and the enable
 abbrev pub section_word : (attention enable : Bool) → ℕ

@@ -6,7 +6,7 @@ ghost use Rattle.p11_dl11.specs.Laws.DueTurns.{IsBefore, IsNotAfter};
 ghost use Rattle.p11_dl11.specs.ReceiverEvents.{receiver_after_turn, receiver_due};
 ghost use Rattle.p11_dl11.specs.TransmitterEvents.{transmitter_due, typed_in};
 
-/// INIT twice is INIT once.
+/// INIT twice is INIT once, in every state of the line.
 #[tactic(auto, unfolding(crate::specs::LineEvents::line_after_init, crate::specs::ReceiverEvents::receiver_after_init))]
 pub fn init_twice_is_init_once()
     ensures { (l : LineState) → line_after_init (line_after_init l) ≡ line_after_init l }

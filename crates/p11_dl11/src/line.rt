@@ -1,3 +1,4 @@
+//! The console line: its receiver and its transmitter.
 ghost use Rattle.std.specs.Prelude.{◌≡◌, ◌≤◌, ◌<◌, ◌^◌, ◌+◌, length, IfOk, IsOk, is_some};
 ghost use Rattle.p11_dl11.specs.LineEvents.{line_after_init, line_after_key, line_after_read, line_after_service, line_after_turn, line_after_write, line_word, new_line};
 ghost use Rattle.p11_dl11.specs.Calls.Requests.{line_requests};
@@ -13,7 +14,7 @@ use std::alloc::{AllocError, Allocator, Global};
 use std::marker::Model;
 use thiserror::Error;
 
-/// A key was pressed while 64 keys waited.
+/// The refusal of a key that is pressed while 64 keys wait.
 #[derive(Clone, Copy, Debug, PartialEq, Eq, Error)]
 #[error("64 keys wait")]
 pub struct KeysFull;
@@ -60,7 +61,7 @@ impl<A: Allocator> Dl11<A> {
         Ok(())
     }
 
-    /// How many more keys may wait.
+    /// How many more keys may wait, 0 to 64.
     pub fn room(&self) -> u32
         ensures room { result ≡ receiver_room self.now.receiver }
         ensures most { result + length self.now.receiver.keys ≡ 64 }
@@ -94,7 +95,8 @@ impl<A: Allocator> Dl11<A> {
         word
     }
 
-    /// Writes a register in this turn.
+    /// Writes a word to a register in this turn. A status register takes bit 6, the transmitter buffer bits 7:0, and the
+    /// receiver buffer nothing.
     #[tactic(auto, unfolding(crate::specs::LineEvents::line_after_write))]
     pub fn write(&mut self, turn: u64, register: Register, word: u16)
         requires { turn ≤ 2 ^ 62 }

@@ -1,7 +1,8 @@
+//! The console line's registers and their bus addresses.
 ghost use Rattle.std.specs.Prelude.{◌≡◌};
 ghost use Rattle.p11_dl11.specs.Addresses.{register_at};
 
-/// A register of the console line.
+/// A register of the console line: status and buffer of each section.
 #[derive(Clone, Copy)]
 pub enum Register {
     /// RCSR, 777560: bit 7 done, bit 6 interrupt enable.

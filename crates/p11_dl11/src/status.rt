@@ -1,22 +1,9 @@
 //! What the two status registers have in common.
 ghost use Rattle.std.specs.Prelude.{◌≡◌, ◌≤◌, ◌<◌, ◌^◌};
-ghost use Rattle.p11_dl11.specs.StatusRegister.{bit_of, flag, request_after_enable, section_word};
+ghost use Rattle.p11_dl11.specs.StatusRegister.{request_after_enable, section_word};
+ghost use Rattle.p11_words.specs.Bits.{bit_of};
 
-/// The flag as a bit of this weight.
-fn flag(is_set: bool, weight: u16) -> u16
-    ensures value { result ≡ flag is_set weight }
-    ensures bound { result ≤ weight }
-{
-    if is_set { weight } else { 0 }
-}
-
-/// Whether the word's bit at this place, whose weight is a power of 2, is set.
-fn bit(word: u16, place: u32) -> bool
-    requires { place < 16 }
-    ensures { result ≡ bit_of word (2 ^ place) }
-{
-    word >> place & 1 == 1
-}
+use p11_words::{bit, flag};
 
 /// The word of a section's status register: done or ready in bit 7, the enable in bit 6.
 pub(crate) fn section_word(attention: bool, enable: bool) -> u16

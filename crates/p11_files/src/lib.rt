@@ -2,7 +2,9 @@
 #![tactic(auto)]
 
 mod file_store;
+mod new_file;
 mod replacing;
 
 pub use file_store::FileStore;
+pub use new_file::{NewFile, fill};
 pub use replacing::replace_file;

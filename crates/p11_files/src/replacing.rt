@@ -1,6 +1,7 @@
 // A file of the system is given other bytes: all of them, or it stays as it is.
-ghost use Rattle.std.specs.Prelude.{◌≡◌, ◌↔◌, IsTrue, bit_and};
+ghost use Rattle.std.specs.Prelude.{◌≡◌, ◌↔◌, IsTrue, IfOk, None, false, bit_and};
 
+use crate::new_file::{NewFile, fill};
 use std::fs::{File, Metadata, OpenOptions, Permissions};
 use std::io::{ErrorKind, Write};
 use std::os::unix::fs::{MetadataExt, OpenOptionsExt, PermissionsExt, fchown};
@@ -41,13 +42,41 @@ pub fn replace_file(rt: &HostRuntime, name: &[u8], bytes: &[u8]) -> io::Result<(
     };
     let place = place_of(rt, name)?;
     check_place(rt, name, &place)?;
-    let (new, file) = new_file(rt, &place)?;
-    let written = write_whole(file, bytes, &place);
-    if written.is_ok() && fs::rename(rt, new.as_str(), place.path.as_str()).is_ok() {
-        return Ok(());
+    let mut new = system_file(rt, &place)?;
+    fill(&mut new, bytes)
+}
+
+/// A new file of the system, which doesn't tell its bytes.
+#[derive(Drop)]
+struct SystemFile<'a> {
+    rt: &'a HostRuntime,
+    file: File,
+    path: String,
+    place: &'a Place,
+    is_named: bool,
+}
+
+impl NewFile for SystemFile<'_> {
+    ghost state = { λ f. record { taken = None; is_named = f.is_named } };
+
+    fn write(&mut self, bytes: &[u8]) -> io::Result<usize> {
+        self.file.write_all(bytes)?;
+        Ok(bytes.len())
     }
-    let _ = fs::remove_file(rt, new.as_str());
-    Err(io::Error::from(ErrorKind::Other))
+
+    fn take_place(&mut self) -> io::Result<()> {
+        if let Some(old) = &self.place.old {
+            take_rights(&self.file, old)?;
+        }
+        self.file.sync_all()?;
+        fs::rename(self.rt, self.path.as_str(), self.place.path.as_str())?;
+        self.is_named = true;
+        Ok(())
+    }
+
+    fn discard(&mut self) {
+        let _ = fs::remove_file(self.rt, self.path.as_str());
+    }
 }
 
 /// Follows the links at the end of a name, also to a file that isn't there yet.
@@ -117,6 +146,20 @@ fn is_protected(mode: u32) -> bool
     mode & OWNER_WRITES == 0
 }
 
+/// A new file in the folder of this place.
+fn system_file<'a>(rt: &'a HostRuntime, place: &'a Place) -> io::Result<SystemFile<'a>>
+    ensures { IfOk result (λ new. new.is_named ≡ false) }
+{
+    let (path, file) = new_file(rt, place)?;
+    Ok(SystemFile {
+        rt,
+        file,
+        path,
+        place,
+        is_named: false,
+    })
+}
+
 /// A new file in the folder of this place, and its own path.
 fn new_file(rt: &HostRuntime, place: &Place) -> io::Result<(String, File)> {
     let mode = match place.old {
@@ -142,15 +185,6 @@ fn create_new(rt: &HostRuntime, path: &str, mode: u32) -> io::Result<File> {
         .create_new(true)
         .mode(mode)
         .open(rt, path)
-}
-
-/// Writes these bytes and nothing else to a new file, brings them to the disk, and closes it.
-fn write_whole(mut file: File, bytes: &[u8], place: &Place) -> io::Result<()> {
-    file.write_all(bytes)?;
-    if let Some(old) = &place.old {
-        take_rights(&file, old)?;
-    }
-    file.sync_all()
 }
 
 /// Gives a new file the permission bits of an old one, and its owner and group where the system lets it.

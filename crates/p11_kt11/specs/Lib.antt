@@ -1,3 +1,4 @@
+-- Memory management, the KT11-D: pages, translation, and the unit's registers.
 pub mod Page
 pub mod Reference
 pub mod Register

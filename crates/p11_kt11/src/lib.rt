@@ -25,7 +25,7 @@ pub use laws::{
     translation_keeps_pages, translation_keeps_user_off_io_page, user_addresses_have_16_bits,
     user_translation_keeps_all_else, user_translation_keeps_the_reach,
 };
-pub use page::{Access, Descriptor, Growth, Page};
+pub use page::Page;
 pub use reference::{Abort, Causes, Kind};
 pub use register::{Register, Space};
 pub use status::Status;

@@ -1,10 +1,11 @@
+//! A reference: the parts of its virtual address, and the causes that abort it.
 ghost use Rattle.std.specs.Prelude.{◌≡◌, ◌+◌, ◌*◌, ◌%◌, ◌^◌, ◌<◌, true, IfErr, IfOk};
 ghost use Rattle.p11_kt11.specs.Reference.{any_cause, block_number, causes_of, forbids, is_absent, is_beyond, no_cause, no_page, page_number, physical, unmapped};
 ghost use Rattle.p11_kt11.specs.Translation.{through};
 
-use crate::page::{Access, Descriptor, Growth, Page};
+use crate::page::{Page, access, is_downward, length_field};
 
-/// Whether a reference reads or writes.
+/// Whether a reference reads or writes. A fetch is a read.
 #[derive(Clone, Copy)]
 pub enum Kind {
     Read,
@@ -47,15 +48,15 @@ impl Causes {
         }
     }
 
-    /// All the causes that hold against a reference to a block through a page.
+    /// All the causes that hold against a reference to a block through a page with this descriptor.
     #[tactic(auto, unfolding(crate::specs::Reference::causes_of))]
-    pub(crate) fn against(descriptor: Descriptor, block: u8, kind: Kind) -> Self
+    pub(crate) fn against(descriptor: u16, block: u8, kind: Kind) -> Self
         ensures { result ≡ causes_of descriptor block kind }
     {
         Causes {
-            non_resident: is_absent(descriptor.access),
-            page_length: is_beyond(descriptor.growth, descriptor.length, block),
-            read_only: forbids(descriptor.access, kind),
+            non_resident: is_absent(descriptor),
+            page_length: is_beyond(descriptor, block),
+            read_only: forbids(descriptor, kind),
         }
     }
 
@@ -76,36 +77,35 @@ pub struct Abort {
     pub causes: Causes,
 }
 
-/// ACF 00 and 10 abort every reference.
+/// Whether a page with this descriptor aborts every reference: ACF 00 or 10.
 #[tactic(auto, unfolding(crate::specs::Reference::is_absent))]
-pub(crate) fn is_absent(access: Access) -> bool
-    ensures { result ≡ is_absent access }
+pub(crate) fn is_absent(descriptor: u16) -> bool
+    ensures { result ≡ is_absent descriptor }
 {
-    match access {
-        Access::NonResident | Access::Unused => true,
-        Access::ReadOnly | Access::ReadWrite => false,
-    }
+    access(descriptor) % 2 == 0
 }
 
-/// Whether a block is beyond a page's length.
+/// Whether a block is beyond the length of a page with this descriptor.
 #[tactic(auto, unfolding(crate::specs::Reference::is_beyond))]
-fn is_beyond(growth: Growth, length: u8, block: u8) -> bool
-    ensures { result ≡ is_beyond growth length block }
+fn is_beyond(descriptor: u16, block: u8) -> bool
+    ensures { result ≡ is_beyond descriptor block }
 {
-    match growth {
-        Growth::Up => block > length,
-        Growth::Down => block < length,
+    let length = length_field(descriptor);
+    if is_downward(descriptor) {
+        block < length
+    } else {
+        block > length
     }
 }
 
-/// ACF 01 aborts writes.
+/// Whether a page with this descriptor aborts a reference of this kind alone: ACF 01 aborts writes.
 #[tactic(auto, unfolding(crate::specs::Reference::forbids))]
-pub(crate) fn forbids(access: Access, kind: Kind) -> bool
-    ensures { result ≡ forbids access kind }
+pub(crate) fn forbids(descriptor: u16, kind: Kind) -> bool
+    ensures { result ≡ forbids descriptor kind }
 {
-    match (access, kind) {
-        (Access::ReadOnly, Kind::Write) => true,
-        _ => false,
+    match kind {
+        Kind::Read => false,
+        Kind::Write => access(descriptor) == 1,
     }
 }
 

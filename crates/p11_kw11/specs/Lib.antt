@@ -1,1 +1,2 @@
+-- The KW11-L line clock.
 pub mod LineClock

@@ -1,6 +1,8 @@
 -- The KW11-L line clock. A tick of the line sets its monitor bit, and interrupts where the program has enabled it. The
 -- operator ticks the line by hand, or sets a period after which it ticks by itself, again and again.
 use Rattle.std.specs.Prelude.{ℕ, ◌+◌, ◌/◌, ◌%◌, Bool, true, false, ◌==◌, ◌&&◌, ◌||◌, not, Option, Some, None, if◌then◌else◌}
+use Rattle.p11_words.specs.Bits.{flag, bit_of}
+use Rattle.p11_words.specs.DueTurns.{is_due}
 use Rattle.p11_kw11.specs.declared.register.Register.{Register}
 use Rattle.p11_kw11.specs.declared.register.Register.TheVariants.{Status}
 
@@ -19,14 +21,6 @@ pub record LineClock : Type 0 where
 -- the register at a bus address, if it is the clock's
 unfoldable pub register_at : ℕ → Option Register
 register_at address = if address == 0o777546 then Some Status else None
-
--- a flag as a number: its weight or 0
-abbrev pub flag : Bool → ℕ → ℕ
-flag is_set weight = if is_set then weight else 0
-
--- the bit of a word that has this weight
-abbrev pub bit_of : ℕ → ℕ → Bool
-bit_of word weight = word / weight % 2 == 1
 
 -- a new clock: monitor set, interrupts disabled, no request; the line doesn't tick by itself
 unfoldable pub new_clock : LineClock
@@ -70,11 +64,6 @@ next_tick turn period = if period == 0 then None else Some (turn + period)
 -- the operator sets a period when so many turns are done, from which the count of turns starts anew
 unfoldable pub clock_after_period : ℕ → ℕ → LineClock → LineClock
 clock_after_period turn period k = record k { period = period; due = next_tick turn period }
-
--- whether a turn is a due turn
-unfoldable pub is_due : ℕ → Option ℕ → Bool
-is_due turn None = false
-is_due turn (Some due) = due == turn
 
 -- what the clock does in a turn: in its due turn the line ticks, and is due again a period later
 unfoldable pub clock_after_turn : ℕ → LineClock → LineClock

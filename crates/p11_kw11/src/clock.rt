@@ -1,6 +1,8 @@
+//! The line clock.
 ghost use Rattle.std.specs.Prelude.{◌≡◌, ◌≤◌, ◌<◌, ◌^◌, ◌&&◌, ◌||◌, not};
-ghost use Rattle.p11_kw11.specs.LineClock.{bit_of, clock_after_init, clock_after_period, clock_after_service, clock_after_tick, clock_after_turn, clock_after_write, clock_word, flag, is_due, new_clock, next_tick};
+ghost use Rattle.p11_kw11.specs.LineClock.{clock_after_init, clock_after_period, clock_after_service, clock_after_tick, clock_after_turn, clock_after_write, clock_word, new_clock, next_tick};
 
+use p11_words::{bit, flag, is_due};
 use std::marker::Model;
 
 /// The place of the monitor bit in the status register.
@@ -37,22 +39,6 @@ impl Model for Kw11 {
     } };
 }
 
-/// The flag as a bit of this weight.
-fn flag(is_set: bool, weight: u16) -> u16
-    ensures value { result ≡ flag is_set weight }
-    ensures bound { result ≤ weight }
-{
-    if is_set { weight } else { 0 }
-}
-
-/// Whether the word's bit at this place, whose weight is a power of 2, is set.
-fn bit(word: u16, place: u32) -> bool
-    requires { place < 16 }
-    ensures { result ≡ bit_of word (2 ^ place) }
-{
-    word >> place & 1 == 1
-}
-
 /// The request after a write that leaves the clock with this monitor bit and this enable.
 fn requests(requested: bool, was_enabled: bool, monitor: bool, enable: bool) -> bool
     ensures { result ≡ (enable && (requested || (monitor && not was_enabled))) }
@@ -69,17 +55,6 @@ fn next_tick(turn: u64, period: u32) -> Option<u64>
         return None;
     }
     Some(turn + u64::from(period))
-}
-
-/// Whether this turn is the due turn.
-#[tactic(auto, unfolding(crate::specs::LineClock::is_due))]
-fn is_due(turn: u64, due: Option<u64>) -> bool
-    ensures { result ≡ is_due turn due }
-{
-    match due {
-        Some(due) => due == turn,
-        None => false,
-    }
 }
 
 impl Kw11 {
@@ -116,7 +91,7 @@ impl Kw11 {
         self.request = requests(self.request, was_enabled, self.monitor, self.enable);
     }
 
-    /// The line ticks.
+    /// The line ticks: the monitor bit is set, and an interrupt is requested if enabled. The due turn stays.
     #[tactic(auto, unfolding(crate::specs::LineClock::clock_after_tick))]
     pub fn tick(&mut self)
         ensures { self.new ≡ clock_after_tick self.old }
@@ -125,7 +100,7 @@ impl Kw11 {
         self.request |= self.enable;
     }
 
-    /// Whether an interrupt is requested.
+    /// Whether an interrupt is requested that isn't served yet.
     pub fn request(&self) -> bool
         ensures { result ≡ self.now.request }
     {

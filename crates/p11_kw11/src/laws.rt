@@ -9,7 +9,7 @@ pub fn init_twice_is_init_once()
 {}
 
 /// The acts of a turn before the due turn change nothing, and where none is due those of no turn do.
-#[tactic(auto, unfolding(crate::specs::LineClock::clock_after_turn, crate::specs::LineClock::is_due))]
+#[tactic(auto, unfolding(crate::specs::LineClock::clock_after_turn, p11_words::specs::DueTurns::is_due))]
 pub fn nothing_happens_before_the_due_turn()
     ensures { (k : LineClock) (turn : ℕ) → IfSome k.due (λ due. turn < due) → clock_after_turn turn k ≡ k }
 {}

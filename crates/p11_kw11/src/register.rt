@@ -1,7 +1,8 @@
+//! The clock's register and its bus address.
 ghost use Rattle.std.specs.Prelude.{◌≡◌};
 ghost use Rattle.p11_kw11.specs.LineClock.{register_at};
 
-/// A register of the line clock.
+/// A register of the line clock, which has one.
 #[derive(Clone, Copy, Debug, PartialEq, Eq)]
 pub enum Register {
     /// LKS, 777546: bit 7 monitor, bit 6 interrupt enable.

@@ -70,7 +70,7 @@ fn answers(alloc: Global, file: (&[u8], &[u8]), script: &[u8]) -> Result<Vec<u8>
     answers_counted::<Brand>(alloc, Blank::new(1), file, script)
 }
 
-/// The same, with a store whose refusals are counted from a blank on.
+/// Runs a session as `answers` does, with a store whose refusals are counted from a blank on.
 fn answers_counted<L: Ledger>(
     alloc: Global,
     blank: Blank,

@@ -1,3 +1,4 @@
+-- Lemmas on texts: numbers and bytes as they are written, words as they are read, and texts written piece by piece.
 pub mod Calls
 pub mod Escapes
 pub mod Lists

@@ -1,3 +1,4 @@
+-- The console's language: the lines of a script, and the text of each answer and fault.
 pub mod AnswerText
 pub mod FaultTable
 pub mod Escapes

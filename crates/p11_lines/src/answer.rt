@@ -32,7 +32,7 @@ pub enum Mark {
 /// The processor's registers, status word and turn count.
 #[derive(Clone, Copy, PartialEq, Eq)]
 pub struct Registers {
-    /// R0 to R5.
+    /// R0 to R5, each a word of 16 bits.
     pub general: [u16; 6],
     /// The stack pointer of kernel mode.
     pub kernel_sp: u16,
@@ -89,9 +89,9 @@ pub enum Answer<A: Allocator = Global> {
         turns: u32,
         pc: u16,
     },
-    /// The registers.
+    /// The processor's registers, as `regs` shows them.
     Registers(Registers),
-    /// The devices.
+    /// The devices' registers, as `device` shows them.
     Devices(Devices),
     /// The sectors of a pack that were written, in the order of the first write of each.
     Sectors(Words<A>),

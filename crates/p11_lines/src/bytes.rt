@@ -48,7 +48,7 @@ impl<A: Allocator> Bytes<A> {
         Self { items }
     }
 
-    /// The bytes.
+    /// The bytes, in their order.
     pub fn as_slice(&self) -> &[u8]
         ensures { result.now ≡ self.now }
     {

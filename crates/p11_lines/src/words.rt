@@ -48,7 +48,7 @@ impl<A: Allocator> Words<A> {
         Self { items }
     }
 
-    /// The words.
+    /// The words, in their order.
     pub fn as_slice(&self) -> &[u16]
         ensures { result.now ≡ self.now }
     {

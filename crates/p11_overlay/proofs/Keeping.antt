@@ -14,7 +14,8 @@ use Rattle.std.proofs.lemmas.Map.Steps.{length-le_from_distinct_below, length-le
 use Rattle.std.proofs.lemmas.Map.Views.{Contains-from_any, exact_unsigned_eq}
 use Rattle.std.proofs.Math.Bool.{or-false}
 use Rattle.std.proofs.lemmas.Map.Made.{is_some-lookup}
-use Rattle.p11_overlay.specs.Drive.{Contents, all_sectors, changed_with, image_bytes, mounted, sector_bytes, sectors_of, written}
+use Rattle.p11_overlay.specs.Drive.{Contents, changed_with, mounted, sectors_of, written}
+use Rattle.p11_overlay.specs.Geometry.{all_sectors, image_bytes, sector_bytes}
 use Rattle.p11_overlay.specs.Kept.Prepared.{IsWhole}
 use Rattle.p11_overlay.specs.Kept.Sectors.{IsKept, base_of, base_sector, contents_of, over_base, sectors_over}
 use Rattle.p11_overlay.proofs.Over.{length-sectors_over, put_other, sector_over}

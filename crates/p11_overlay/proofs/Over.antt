@@ -6,7 +6,8 @@ use Rattle.std.proofs.lemmas.Bool.Decides.{nat_tests}
 use Rattle.std.proofs.lemmas.List.{ext_get_or, get_or_past, get_or-take, length-take}
 use Rattle.std.proofs.lemmas.List.FromFn.{get_or-map-range_with_len, length-map-range_with_len}
 use Rattle.std.specs.Int.{div_ceil}
-use Rattle.p11_overlay.specs.Drive.{all_sectors, image_bytes, sector_bytes, filled, sector_within, sectors_of}
+use Rattle.p11_overlay.specs.Drive.{filled, sector_within, sectors_of}
+use Rattle.p11_overlay.specs.Geometry.{all_sectors, image_bytes, sector_bytes}
 use Rattle.p11_overlay.specs.Kept.Sectors.{base_of, base_sector, over_base, sectors_over}
 use Rattle.p11_overlay.proofs.Sectors.{sector_past}
 

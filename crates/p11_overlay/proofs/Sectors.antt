@@ -6,7 +6,8 @@ use Rattle.std.proofs.lemmas.List.{same_lists, places, append_assoc, append-nil,
 use Rattle.std.proofs.lemmas.List.Elements.{All-from_get_or, All-head, All-nil, All-tail}
 use Rattle.std.proofs.lemmas.List.FromFn.{fill_by_all, get_or-map-range_with_len, length-map-range_with_len, map-range_with_len_more, take-map-range_with_len}
 use Rattle.p11_overlay.specs.Kept.Prepared.{IsWhole}
-use Rattle.p11_overlay.specs.Drive.{all_sectors, image_bytes, filled, mounted, sector_within, sectors_of}
+use Rattle.p11_overlay.specs.Drive.{filled, mounted, sector_within, sectors_of}
+use Rattle.p11_overlay.specs.Geometry.{all_sectors, image_bytes}
 use Rattle.std.specs.Int.{div_ceil}
 use Rattle.p11_overlay.specs.Kept.Sectors.{base_of}
 

@@ -1,17 +1,8 @@
--- An RK05 drive with a pack on it, and what the pack holds.
--- A pack has 203 cylinders of 2 surfaces of 12 sectors of 512 bytes, which are numbered in that order: by cylinder,
--- then by surface, then by sector.
+-- An RK05 drive with a pack on it, and what the pack holds. The sectors are numbered by cylinder, then by surface, then
+-- by their place in the track.
 use Rattle.std.specs.Prelude.{ℕ, ◌-◌, ◌*◌, Bool, nat_eq, List, [], ◌∷◌, ◌++◌, length, take, drop, map, replicate, slice_set, slice_index_or, if◌then◌else◌}
 use Rattle.std.specs.List.{list_any, range_with_len, concat}
-
-abbrev pub all_sectors : ℕ
-all_sectors = 4872
-
-abbrev pub sector_bytes : ℕ
-sector_bytes = 512
-
-abbrev pub image_bytes : ℕ
-image_bytes = 2494464
+use Rattle.p11_overlay.specs.Geometry.{all_sectors, sector_bytes, image_bytes}
 
 -- The bytes of each sector, the write-protect mark, and the numbers of the sectors that were written
 -- since the mount, each once, in the order of their first writes.
@@ -51,8 +42,4 @@ changed_with changed n = if list_any (nat_eq n) changed then changed else change
 -- a drive after a write of sector n
 abbrev pub written : Contents → ℕ → List ℕ → Contents
 written contents n bytes =
-    record {
-      sectors = slice_set contents.sectors n bytes;
-      protected = contents.protected;
-      changed = changed_with contents.changed n;
-    }
+    record contents { sectors = slice_set contents.sectors n bytes; changed = changed_with contents.changed n }

@@ -2,7 +2,8 @@
 ghost use Rattle.std.specs.Prelude.{◌≡◌, ℕ, ◌<◌, ◌≤◌, ◌+◌, ◌-◌, ◌++◌, true, false, cond, nat_eq, length, replicate, vec_len, vec_capacity, Some, None, IsTrue, IfOk, OnOk, OnErr, IsOk};
 ghost use Rattle.std.specs.List.{list_any};
 ghost use Rattle.indexmap.specs.IndexMap.{get, index_map_len, keys, IsUnchanged};
-ghost use Rattle.p11_overlay.specs.Drive.{all_sectors, changed_with, filled, image_bytes, sector_bytes, sector_within};
+ghost use Rattle.p11_overlay.specs.Drive.{changed_with, filled, sector_within};
+ghost use Rattle.p11_overlay.specs.Geometry.{all_sectors, image_bytes, sector_bytes};
 ghost use Rattle.p11_overlay.specs.Kept.Sectors.{base_of, base_sector};
 
 use crate::geometry::{ALL_SECTORS, IMAGE_BYTES, SECTOR_BYTES};
@@ -76,7 +77,7 @@ impl<A: Allocator> Drive<A> {
     ghost use Rattle.p11_overlay.specs.Kept.Prepared.{IsPrepared, IsChanged, IsWhole};
     ghost use Rattle.p11_overlay.specs.Drive.{sector_of, sectors_of, image_of, written};
 
-    /// The 512 bytes of sector `n`.
+    /// The 512 bytes of sector `n`, 0 to 4,871, as they were written last.
     pub fn sector(&self, n: u16) -> &[u8]
         requires { n < all_sectors }
         ensures bytes { result.now ≡ sector_of self.now.contents n }

@@ -1,6 +1,6 @@
 //! What the numbers of the geometry are.
 ghost use Rattle.std.specs.Prelude.{◌≡◌, ◌*◌};
-ghost use Rattle.p11_overlay.specs.Drive.{all_sectors, image_bytes, sector_bytes};
+ghost use Rattle.p11_overlay.specs.Geometry.{all_sectors, image_bytes, sector_bytes};
 
 use crate::geometry::{
     ALL_SECTORS, CYLINDERS, IMAGE_BYTES, SECTOR_BYTES, SECTORS_PER_TRACK, SURFACES,

@@ -6,7 +6,7 @@ use Rattle.p11_lines.specs.declared.answer.Answer.{Answer}
 use Rattle.p11_rk11.specs.Acts.{after_sector, after_sector_on, disk_after_transfer, disk_after_turn, is_refused, stores_of}
 use Rattle.p11_rk11.specs.Drives.{MountedDrive}
 use Rattle.p11_rk11.specs.Memory.{Words, has_word, word_at}
-use Rattle.p11_rk11.specs.Registers.{is_due}
+use Rattle.p11_words.specs.DueTurns.{is_due}
 use Rattle.p11_rk11.specs.State.{selected}
 use Rattle.p11_rk11.specs.declared.registers.Registers.{Registers}
 use Rattle.p11_unibus.specs.Acts.{bus_after_clock, bus_after_disk, bus_after_line, bus_after_turn}

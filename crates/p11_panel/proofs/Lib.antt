@@ -1,3 +1,4 @@
+-- Lemmas on ranges of words, runs, lists of commands, confinement, and a session's bytes and lines.
 pub mod RangeLemmas
 pub mod RunLemmas
 pub mod PlayLemmas

@@ -38,9 +38,9 @@ unfoldable pub examined : {A : Type 0} → ℕ → ℕ → State → State × An
 examined address n s =
     if n == 1 then with_word address (examine_of address s) else with_words address (reads_at address n s)
 
--- whether more than one word is written, and the last of them to the I/O page, which is 760000 and up
+-- whether more than one word is written, and some of the range lies in the I/O page, which is 760000 to 777777
 unfoldable pub touches_io_page : ℕ → ℕ → Bool
-touches_io_page address n = nat_lt 1 n && nat_le 0o760000 (address + 2 * (n - 1))
+touches_io_page address n = nat_lt 1 n && (nat_le address 0o777777 && nat_le 0o760000 (address + 2 * (n - 1)))
 
 -- DEPOSIT: 1 to 64 words from an even address on, all of which answer; where the range touches the I/O page, one
 unfoldable pub deposit_fault : ℕ → List ℕ → State → Option Fault

@@ -1,7 +1,8 @@
 -- The operator's commands on the drives, of which each may have a pack mounted on it.
 use Rattle.std.specs.Prelude.{ℕ, ◌⊎◌, List, length, Bool, nat_lt, nat_le, Option, None, Some, is_some, MatchOption, if◌then◌else◌}
 use Rattle.std.specs.Bool.{MatchBool}
-use Rattle.p11_overlay.specs.Drive.{Contents, image_of, image_bytes}
+use Rattle.p11_overlay.specs.Drive.{Contents, image_of}
+use Rattle.p11_overlay.specs.Geometry.{image_bytes}
 use Rattle.p11_rk11.specs.State.{drive_count, drive_of, contents_of, is_busy}
 use Rattle.p11_lines.specs.declared.fault.Fault.{Fault}
 use Rattle.p11_lines.specs.declared.fault.Fault.TheVariants.{NoDrive, DriveEmpty, DriveTaken, ImageTooLong, DriveBusy, NoMemory}

@@ -1,3 +1,4 @@
+-- What the operator's commands, lists of them and sessions do and answer, and the laws that follow.
 pub mod Runs
 pub mod Ranges
 pub mod Keys

@@ -1,3 +1,4 @@
+//! Does one line of the console's language: finds its file in the store, does its command, and gives the answer.
 ghost use Rattle.std.specs.Prelude.{◌≡◌};
 ghost use Rattle.p11_lines.specs.Grammar.{line_from};
 ghost use Rattle.p11_panel.specs.Commands.{Acts};
@@ -167,7 +168,7 @@ fn ask<A: Allocator + Copy, S: Store>(
     }
 }
 
-/// Does a line.
+/// Does a line of a script: its answer, or none where it is blank or a remark.
 #[tactic(auto, unfolding(crate::specs::Session::LineDoes, crate::specs::Session::has_answer))]
 pub(crate) fn do_line<A: Allocator + Copy, S: Store>(
     alloc: A,

@@ -1,3 +1,4 @@
+//! What an operator can ask of the machine.
 use p11_lines::{Bytes, Words};
 use std::alloc::{Allocator, Global};
 

@@ -1,3 +1,4 @@
+//! The sizes that a machine can have: thousands of words of memory, and the cache's decoded words.
 ghost use Rattle.std.specs.Prelude.{◌≡◌, ◌≤◌, true};
 ghost use Rattle.p11_panel.specs.Calls.Sizes.{is_size, sizes_of};
 

@@ -1,6 +1,6 @@
 // The commands on the drives.
 ghost use Rattle.std.specs.Prelude.{◌≡◌, ◌<◌, ◌≤◌, false, length, is_some, IfOk, IfErr, IfNone};
-ghost use Rattle.p11_overlay.specs.Drive.{image_bytes};
+ghost use Rattle.p11_overlay.specs.Geometry.{image_bytes};
 ghost use Rattle.p11_rk11.specs.State.{drive_count, drive_of};
 ghost use Rattle.p11_panel.specs.Commands.{Acts};
 ghost use Rattle.p11_panel.specs.Disks.{mount_fault, Mounts, Unmounts, Saves, ShowsChanged};
@@ -35,7 +35,7 @@ impl<A: Allocator + Copy> Panel<A> {
         None
     }
 
-    /// MOUNT.
+    /// Does MOUNT: puts a pack that holds these bytes, and zeros behind them, on a drive (0 to 7); or says why not.
     pub(crate) fn mount(&mut self, alloc: A, drive: u32, image: &[u8], protect: bool) -> Answer<A>
         ensures { Mounts drive image.now protect self.old result self.new }
     {
@@ -48,7 +48,7 @@ impl<A: Allocator + Copy> Panel<A> {
         }
     }
 
-    /// UNMOUNT.
+    /// Does UNMOUNT: takes the pack out of a drive that isn't busy; or says why not.
     pub(crate) fn unmount(&mut self, drive: u32) -> Answer<A>
         ensures { Unmounts drive self.old result self.new }
     {
@@ -82,7 +82,7 @@ impl<A: Allocator + Copy> Panel<A> {
         }
     }
 
-    /// SAVE.
+    /// Does SAVE: answers all bytes of the pack on a drive; or says why not, for want of memory too.
     pub(crate) fn save(&self, alloc: A, drive: u32) -> Answer<A>
         ensures { Saves drive self.now result self.now }
     {
@@ -92,7 +92,7 @@ impl<A: Allocator + Copy> Panel<A> {
         }
     }
 
-    /// CHANGED.
+    /// Does CHANGED: answers the numbers of the sectors written since the pack was mounted; or says why not.
     pub(crate) fn changed(&self, alloc: A, drive: u32) -> Answer<A>
         ensures { ShowsChanged drive self.now result self.now }
     {

@@ -1,3 +1,4 @@
+//! KEY: bytes come to the console line one after another.
 ghost use Rattle.std.specs.Prelude.{◌≡◌};
 ghost use Rattle.p11_cpu.specs.OperatorDevices.{key_of};
 ghost use Rattle.p11_panel.specs.Keys.{pressed};

@@ -1,3 +1,4 @@
+//! The bytes of the line that a session is reading, up to the longest that a line may be.
 ghost use Rattle.std.specs.Prelude.{◌≡◌, Some, [], option_copied};
 ghost use Rattle.p11_panel.specs.Kept.Buffer.{pushed};
 

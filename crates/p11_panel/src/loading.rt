@@ -63,7 +63,7 @@ impl<A: Allocator + Copy> Panel<A> {
         }
     }
 
-    /// LOAD.
+    /// Does LOAD: writes the data of a tape in the absolute binary format to memory, all or none; or says why not.
     pub(crate) fn load(&mut self, alloc: A, tape: &[u8]) -> Answer<A>
         ensures { Loads tape.now self.old result self.new }
     {

@@ -1,3 +1,4 @@
+//! The machine under an operator: one command done and answered.
 ghost use Rattle.std.specs.Prelude.{◌≡◌, ◌<◌, ◌≤◌, ◌+◌, ◌^◌, true, IfOk};
 ghost use Rattle.p11_cpu.specs.Operator.{new_machine};
 ghost use Rattle.p11_panel.specs.Commands.{Acts, Examines, Stops};
@@ -81,7 +82,7 @@ impl<A: Allocator + Copy> Panel<A> {
         }
     }
 
-    /// EXAMINE.
+    /// Does EXAMINE: answers so many words from an even bus address on; or says why not.
     fn examine(&mut self, alloc: A, address: u32, count: u32) -> Answer<A>
         ensures { Acts self.old (Command.Examine address count) result self.new }
     {
@@ -111,7 +112,7 @@ impl<A: Allocator + Copy> Panel<A> {
         }
     }
 
-    /// DEPOSIT.
+    /// Does DEPOSIT: writes words from an even bus address on, all or none; or says why not.
     fn deposit(&mut self, address: u32, words: &[u16]) -> Answer<A>
         ensures { Acts self.old (Command.Deposit address words.now) result self.new }
     {
@@ -122,7 +123,7 @@ impl<A: Allocator + Copy> Panel<A> {
         Answer::Done
     }
 
-    /// START.
+    /// Does START: resets the bus and sets PC to an even address; or says why not.
     fn start(&mut self, address: u16) -> Answer<A>
         ensures { Acts self.old (Command.Start address) result self.new }
     {
@@ -133,7 +134,7 @@ impl<A: Allocator + Copy> Panel<A> {
         Answer::Done
     }
 
-    /// KEY.
+    /// Does KEY: presses the keys that give these bytes, all or none; or says why not.
     fn key(&mut self, text: &[u8]) -> Answer<A>
         ensures { Acts self.old (Command.Key text.now) result self.new }
     {
@@ -144,7 +145,7 @@ impl<A: Allocator + Copy> Panel<A> {
         Answer::Done
     }
 
-    /// TICK.
+    /// Does TICK: lets the line clock tick.
     fn tick(&mut self) -> Answer<A>
         ensures { Acts self.old Command.Tick result self.new }
     {
@@ -152,7 +153,7 @@ impl<A: Allocator + Copy> Panel<A> {
         Answer::Done
     }
 
-    /// CLOCK.
+    /// Does CLOCK: lets the line clock tick by itself every so many turns, or with 0 no more.
     fn clock(&mut self, period: u32) -> Answer<A>
         ensures { Acts self.old (Command.Clock period) result self.new }
     {
@@ -160,7 +161,7 @@ impl<A: Allocator + Copy> Panel<A> {
         Answer::Done
     }
 
-    /// SWITCHES.
+    /// Does SWITCHES: sets the switch register.
     fn switches(&mut self, word: u16) -> Answer<A>
         ensures { Acts self.old (Command.Switches word) result self.new }
     {
@@ -168,7 +169,7 @@ impl<A: Allocator + Copy> Panel<A> {
         Answer::Done
     }
 
-    /// FLUSH.
+    /// Does FLUSH: drops all that is kept to find answers sooner.
     fn flush(&mut self) -> Answer<A>
         ensures { Acts self.old Command.Flush result self.new }
     {
@@ -176,7 +177,7 @@ impl<A: Allocator + Copy> Panel<A> {
         Answer::Done
     }
 
-    /// SET.
+    /// Does SET: sets the register of an octal number, 0 to 11; or says why not.
     fn set(&mut self, register: u16, value: u16) -> Answer<A>
         ensures { Acts self.old (Command.Set register value) result self.new }
     {
@@ -187,7 +188,7 @@ impl<A: Allocator + Copy> Panel<A> {
         Answer::Done
     }
 
-    /// STEP.
+    /// Does STEP: makes so many turns, fewer where it halts or memory is refused; or says why not.
     fn step(&mut self, turns: u32) -> Answer<A>
         ensures acts { Acts self.old (Command.Step turns) result self.new }
         ensures confined { ConfinesRun self.old (Command.Step turns) result self.new }
@@ -198,7 +199,7 @@ impl<A: Allocator + Copy> Panel<A> {
         self.make_run(turns, false)
     }
 
-    /// CONTINUE.
+    /// Does CONTINUE: makes turns as STEP does, and stops where the machine idles.
     fn continue_run(&mut self, turns: u32) -> Answer<A>
         ensures acts { Acts self.old (Command.Continue turns) result self.new }
         ensures confined { ConfinesRun self.old (Command.Continue turns) result self.new }

@@ -1,3 +1,4 @@
+//! The headline's call: a list of commands on a new machine.
 ghost use Rattle.std.specs.Prelude.{◌≡◌, IfOk};
 ghost use Rattle.p11_cpu.specs.Operator.{new_machine};
 ghost use Rattle.p11_panel.specs.Confinement.{PlaysConfined};

@@ -1,3 +1,4 @@
+//! Words from an even bus address on, read for EXAMINE and written for DEPOSIT.
 ghost use Rattle.std.specs.Prelude.{◌≡◌, ℕ, ◌≤◌, ◌+◌, ◌*◌, ◌<◌, ◌++◌, ◌∷◌, [], true, length, IfOk, OnErr};
 ghost use Rattle.std.specs.Prelude.{vec_len, vec_capacity};
 ghost use Rattle.p11_cpu.specs.Operator.{examine_of, deposit_of};

@@ -1,3 +1,4 @@
+//! Why EXAMINE, DEPOSIT, START, KEY, STEP and CONTINUE are refused, found before anything changes.
 ghost use Rattle.std.specs.Prelude.{◌≡◌, ◌≤◌, ◌+◌, ◌*◌, ◌<◌, ◌^◌, true, length, IfNone};
 ghost use Rattle.p11_panel.specs.Commands.{examine_fault, deposit_fault, start_fault, key_fault, step_fault};
 ghost use Rattle.p11_panel.specs.Commands.{touches_io_page};
@@ -19,12 +20,15 @@ const LAST_ADDRESS: u64 = 0o777777;
 
 const IO_PAGE: u64 = 0o760000;
 
-/// Whether more than one word is written from an address on, and the last of them to the I/O page.
+/// Whether more than one word is written from an address on, and some of the range lies in the I/O page.
 #[tactic(auto, unfolding(crate::specs::Commands::touches_io_page))]
 fn is_past_memory(address: u32, count: u32) -> bool
     ensures { result ≡ touches_io_page address count }
 {
     if count <= 1 {
+        return false;
+    }
+    if u64::from(address) > LAST_ADDRESS {
         return false;
     }
     IO_PAGE <= u64::from(address) + 2 * (u64::from(count) - 1)

@@ -1,3 +1,4 @@
+//! STEP and CONTINUE: turns up to a number, a halt, want of memory, or idling.
 ghost use Rattle.std.specs.Prelude.{◌≡◌, ◌≤◌, ◌+◌, ◌^◌};
 ghost use Rattle.p11_panel.specs.Runs.{IsRun, stops_idling};
 

@@ -6,7 +6,8 @@ use Rattle.p11_psw.specs.declared.mode.Mode.TheVariants.{Kernel, Mode01, Mode10,
 use Rattle.p11_psw.specs.declared.priority.Priority.{Priority}
 use Rattle.p11_psw.specs.declared.priority.Priority.TheVariants.{Level0, Level1, Level2, Level3, Level4, Level5, Level6, Level7}
 use Rattle.p11_psw.specs.declared.psw.Psw.{Psw}
-use Rattle.p11_psw.specs.Fields.{mode_number, mode_at, priority_number, priority_at, flag}
+use Rattle.p11_psw.specs.Fields.{mode_number, mode_at, priority_number, priority_at}
+use Rattle.p11_words.specs.Bits.{flag}
 use Rattle.p11_psw.specs.Status.{status_of, status_word}
 use Rattle.p11_psw.specs.Laws.Words.{without_unused}
 

@@ -1,5 +1,5 @@
 -- The fields of the processor status word as numbers.
-use Rattle.std.specs.Prelude.{ℕ, ◌/◌, ◌%◌, Bool, ◌==◌, if◌then◌else◌, [], ◌∷◌, slice_index_or}
+use Rattle.std.specs.Prelude.{ℕ, [], ◌∷◌, slice_index_or, bit_or}
 use Rattle.p11_psw.specs.declared.mode.Mode.{Mode}
 use Rattle.p11_psw.specs.declared.mode.Mode.TheVariants.{Kernel, Mode01, Mode10, User}
 use Rattle.p11_psw.specs.declared.priority.Priority.{Priority}
@@ -18,11 +18,7 @@ mode_at n = slice_index_or (Kernel ∷ Mode01 ∷ Mode10 ∷ []) n User
 
 -- the mode whose two bits are each set where the bit of one mode or of the other is
 abbrev pub joined_mode : Mode → Mode → Mode
-joined_mode Kernel m = m
-joined_mode m Kernel = m
-joined_mode Mode01 Mode01 = Mode01
-joined_mode Mode10 Mode10 = Mode10
-joined_mode _ _ = User
+joined_mode a b = mode_at (bit_or (mode_number a) (mode_number b))
 
 -- the processor's priority is a level from 0 to 7
 abbrev pub priority_number : Priority → ℕ
@@ -38,11 +34,3 @@ priority_number Level7 = 7
 -- the priority that three bits say
 abbrev pub priority_at : ℕ → Priority
 priority_at n = slice_index_or (Level0 ∷ Level1 ∷ Level2 ∷ Level3 ∷ Level4 ∷ Level5 ∷ Level6 ∷ []) n Level7
-
--- a flag as a number: its weight or 0
-abbrev pub flag : Bool → ℕ → ℕ
-flag is_set weight = if is_set then weight else 0
-
--- the bit of a word that has this weight
-abbrev pub bit_of : ℕ → ℕ → Bool
-bit_of word weight = word / weight % 2 == 1

@@ -1,3 +1,4 @@
+-- The processor status word, the vectors, and the stack limit of kernel mode.
 pub mod Fields
 pub mod Status
 pub mod Sources

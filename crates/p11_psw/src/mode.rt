@@ -1,3 +1,4 @@
+//! The modes of the processor, two bits each.
 ghost use Rattle.std.specs.Prelude.{◌≡◌, ◌<◌};
 ghost use Rattle.p11_psw.specs.Fields.{joined_mode, mode_at, mode_number};
 
@@ -24,7 +25,7 @@ impl Mode {
         }
     }
 
-    /// The mode that two bits say.
+    /// The mode that two bits say, as a number from 0 to 3: 0 is kernel, 3 user.
     pub fn from_number(number: u16) -> Mode
         requires { number < 4 }
         ensures { result ≡ mode_at number }
@@ -38,14 +39,10 @@ impl Mode {
     }
 
     /// The mode that has each bit which this mode or the other has.
+    #[tactic(auto, using(crate::proofs::Modes::joined_below))]
     pub fn joined(self, other: Mode) -> Mode
         ensures { result ≡ joined_mode self other }
     {
-        match (self, other) {
-            (Mode::Kernel, mode) | (mode, Mode::Kernel) => mode,
-            (Mode::Mode01, Mode::Mode01) => Mode::Mode01,
-            (Mode::Mode10, Mode::Mode10) => Mode::Mode10,
-            _ => Mode::User,
-        }
+        Mode::from_number(self.number() | other.number())
     }
 }

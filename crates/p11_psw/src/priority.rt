@@ -1,3 +1,4 @@
+//! The priority of the processor, and the level of an interrupt.
 ghost use Rattle.std.specs.Prelude.{◌≡◌, ◌<◌, nat_lt};
 ghost use Rattle.p11_psw.specs.Fields.{priority_at, priority_number};
 
@@ -15,7 +16,7 @@ pub enum Priority {
 }
 
 impl Priority {
-    /// The level as a number from 0 to 7.
+    /// The level as a number from 0 to 7, as it stands in bits 7:5 of the status word.
     pub fn number(self) -> u16
         ensures value { result ≡ priority_number self }
         ensures bound { result < 8 }
@@ -32,7 +33,7 @@ impl Priority {
         }
     }
 
-    /// The priority that three bits say.
+    /// The priority that three bits say, as a number from 0 to 7.
     pub fn from_number(number: u16) -> Priority
         requires { number < 8 }
         ensures { result ≡ priority_at number }

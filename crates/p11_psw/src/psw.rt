@@ -1,10 +1,11 @@
-ghost use Rattle.std.specs.Prelude.{◌≡◌, ◌≤◌, ◌<◌, ◌^◌};
-ghost use Rattle.p11_psw.specs.Fields.{bit_of, flag};
+//! The processor status word and its sources.
+ghost use Rattle.std.specs.Prelude.{◌≡◌};
 ghost use Rattle.p11_psw.specs.Sources.{status_from_return, status_from_vector, status_from_write};
 ghost use Rattle.p11_psw.specs.Status.{new_status, status_of, status_word};
 
 use crate::mode::Mode;
 use crate::priority::Priority;
+use p11_words::{bit, flag};
 
 /// The processor's status: its modes, its priority, the trace bit T and the condition codes N, Z, V and C.
 #[derive(Clone, Copy, Debug, PartialEq, Eq)]
@@ -19,38 +20,13 @@ pub struct Psw {
     pub c: bool,
 }
 
-/// The flag as a bit of this weight.
-fn flag(is_set: bool, weight: u16) -> u16
-    ensures value { result ≡ flag is_set weight }
-    ensures bound { result ≤ weight }
-{
-    if is_set { weight } else { 0 }
-}
-
-/// Whether the word's bit at this place, whose weight is a power of 2, is set.
-fn bit(word: u16, place: u32) -> bool
-    requires { place < 16 }
-    ensures { result ≡ bit_of word (2 ^ place) }
-{
-    word >> place & 1 == 1
-}
-
 impl Psw {
     /// The status of a new machine, whose word is 0.
     #[tactic(auto, unfolding(crate::specs::Status::new_status))]
     pub fn new() -> Psw
         ensures { result ≡ new_status }
     {
-        Psw {
-            current: Mode::Kernel,
-            previous: Mode::Kernel,
-            priority: Priority::Level0,
-            trace: false,
-            n: false,
-            z: false,
-            v: false,
-            c: false,
-        }
+        Psw::from_word(0)
     }
 
     /// The word that shows at the status word's bus address, and that a trap or an interrupt pushes.

@@ -1,3 +1,4 @@
+//! The stack limit of kernel mode.
 ghost use Rattle.std.specs.Prelude.{◌≡◌};
 ghost use Rattle.p11_psw.specs.Zones.{zone_of};
 

@@ -1,10 +1,11 @@
+//! The vectors of traps and interrupts.
 ghost use Rattle.std.specs.Prelude.{◌≡◌, ◌<◌};
 ghost use Rattle.p11_psw.specs.Vectors.{vector_address};
 ghost use Rattle.p11_psw.specs.Calls.Levels.{vector_level};
 
 use crate::priority::Priority;
 
-/// A vector of the machine.
+/// A vector: what a trap or an interrupt is for, and where its service's PC and status stand.
 #[derive(Clone, Copy)]
 pub enum Vector {
     /// Odd address, time-out on the bus, stack limit, and the illegal JMP and JSR to a register.

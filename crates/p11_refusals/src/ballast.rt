@@ -1,3 +1,4 @@
+//! Takes all free memory of a heap, and gives it back a piece at a time.
 use p11_test_data::{Wrong, bad_line};
 use std::alloc::{AllocError, Allocator, Global};
 

@@ -1,3 +1,4 @@
+//! A machine with its store, asked by scripts, and all that shows of both.
 use crate::case::Setting;
 use p11_panel::Panel;
 use p11_test_data::{Shelf, Wrong, ask};

@@ -40,6 +40,14 @@ pub(crate) fn small(alloc: Global) -> Result<Config, Wrong> {
     }
 }
 
+/// The machine of a script that asks for no sizes: 28 thousand words and 1,024 decoded words.
+pub(crate) fn usual(alloc: Global) -> Result<Config, Wrong> {
+    match Config::new(28, 1024) {
+        Ok(config) => Ok(config),
+        Err(_) => Err(bad_line(alloc, "28 1024")),
+    }
+}
+
 /// The text of an answer.
 fn text<A: Allocator>(alloc: Global, answer: &Answer<A>) -> Result<String, Wrong> {
     let mut text = Vec::new(alloc);
@@ -54,6 +62,13 @@ fn text<A: Allocator>(alloc: Global, answer: &Answer<A>) -> Result<String, Wrong
 struct Asked {
     command: Command,
     answer: &'static str,
+}
+
+/// A deposit of two words. The I/O page is 760000 to 777777, and a range that touches it is too many; a range beyond it
+/// answers nowhere.
+fn two_words(alloc: Global, address: u32) -> Result<Command, AllocError> {
+    let words = Words::from_vec(Vec::from_slice(alloc, &[1, 2])?);
+    Ok(Command::Deposit { address, words })
 }
 
 /// Numbers that no line can have: none, and addresses of more than 18 bits.
@@ -89,6 +104,13 @@ fn odd_commands(alloc: Global) -> Result<Vec<Asked>, AllocError> {
             },
             "? 6 NoAnswer\n",
         ),
+        (two_words(alloc, 0o757_774)?, "? 6 NoAnswer\n"),
+        (two_words(alloc, 0o757_776)?, "? 10 TooMany\n"),
+        (two_words(alloc, 0o777_776)?, "? 10 TooMany\n"),
+        (two_words(alloc, 0o777_777)?, "? 10 TooMany\n"),
+        (two_words(alloc, 0o1_000_000)?, "? 6 NoAnswer\n"),
+        (two_words(alloc, 0o1_000_001)?, "? 5 OddAddress\n"),
+        (two_words(alloc, last)?, "? 6 NoAnswer\n"),
         (Command::Save { drive: 0 }, "? 2 DriveEmpty\n"),
         (
             Command::Set {
@@ -140,10 +162,12 @@ const ADDED: &str = "OK\nOK\nSTOP halt 3 001012\nREGS 000014 000000 000000 00000
 /// Plays a list of commands with ample memory, and on a heap with none.
 pub(crate) fn give_lists(alloc: Global) -> Result<(), Wrong> {
     let commands = adding(alloc)?;
-    let Some(answers) = played(alloc, alloc, commands.as_slice())? else {
-        return Err(Wrong::NoMemory);
-    };
-    same(alloc, "a list of commands", ADDED, answers.as_str())?;
+    for config in [small(alloc)?, usual(alloc)?] {
+        let Some(answers) = played(alloc, alloc, config, commands.as_slice())? else {
+            return Err(Wrong::NoMemory);
+        };
+        same(alloc, "a list of commands", ADDED, answers.as_str())?;
+    }
     let heap = LocalHeap::new(alloc, 65_536)?;
     refuse_a_list(alloc, Ballast::new(alloc, &heap, 16))
 }
@@ -153,7 +177,7 @@ pub(crate) fn give_long_lists(alloc: Global) -> Result<(), Wrong> {
     let mut commands = Vec::new(alloc);
     let mut expected = String::new(alloc);
     for _ in 0..101 {
-        let Some(answers) = played(alloc, alloc, commands.as_slice())? else {
+        let Some(answers) = played(alloc, alloc, small(alloc)?, commands.as_slice())? else {
             return Err(Wrong::NoMemory);
         };
         same(
@@ -172,9 +196,10 @@ pub(crate) fn give_long_lists(alloc: Global) -> Result<(), Wrong> {
 fn played<A: Allocator + Copy>(
     alloc: Global,
     heap: A,
+    config: Config,
     commands: &[Command<A>],
 ) -> Result<Option<String>, Wrong> {
-    let Ok((_, answers)) = play(heap, small(alloc)?, commands) else {
+    let Ok((_, answers)) = play(heap, config, commands) else {
         return Ok(None);
     };
     let mut texts = String::new(alloc);
@@ -190,7 +215,7 @@ fn refuse_a_list<A: Allocator + Copy>(alloc: Global, mut ballast: Ballast<A>) ->
     let commands = adding(heap)?;
     ballast.fill()?;
     for refused in 0..MOST_TRIES {
-        if let Some(answers) = played(alloc, heap, commands.as_slice())? {
+        if let Some(answers) = played(alloc, heap, small(alloc)?, commands.as_slice())? {
             same(alloc, "a list of commands", ADDED, answers.as_str())?;
             return Places::at_least(513).judge(alloc, "a list of commands", refused);
         }

@@ -1,3 +1,4 @@
+//! What a file of data says of one case: machine, files, lines, and at how many places each is refused.
 use p11_panel::Config;
 use p11_test_data::{StoredFile, Wrong, bad_line};
 use std::alloc::{AllocError, Global};

@@ -1,3 +1,4 @@
+//! Reads a file of cases line by line, tries each, and keeps what they showed.
 use crate::calm::play_calmly;
 use crate::case::{Case, Places, Setting, Trial};
 use crate::full_heap::play_on_full_heap;

@@ -1,3 +1,4 @@
+//! A session in which each growth is refused once, compared line by line with the session that has memory.
 use crate::ballast::{Ballast, MOST_TRIES};
 use crate::bench::Bench;
 use crate::calm::{Played, Step};

@@ -1,7 +1,8 @@
 // How a script is cut into lines, and how it ends.
-use crate::by_hand::small;
+use crate::by_hand::{small, usual};
 use crate::case::{Case, Setting};
 use crate::streams::play;
+use p11_panel::Config;
 use p11_test_data::{EndlessReader, PieceReader, PieceWriter, Wrong, bad_line, same};
 use std::alloc::{AllocError, Global};
 
@@ -48,7 +49,20 @@ static SCRIPTS: [Script; 8] = [
 
 /// Plays scripts that no case can write down.
 pub(crate) fn play_scripts(alloc: Global) -> Result<(), Wrong> {
+    play_each(alloc, usual(alloc)?)?;
+    play_each(alloc, small(alloc)?)?;
     let case = Case::new(alloc, "", small(alloc)?)?;
+    let setting = Setting {
+        case: &case,
+        files: &[],
+    };
+    play_long(alloc, &setting)?;
+    play_endless(alloc, &setting)
+}
+
+/// Plays each of these scripts on machines of these sizes.
+fn play_each(alloc: Global, config: Config) -> Result<(), Wrong> {
+    let case = Case::new(alloc, "", config)?;
     let setting = Setting {
         case: &case,
         files: &[],
@@ -61,8 +75,7 @@ pub(crate) fn play_scripts(alloc: Global) -> Result<(), Wrong> {
         let found = format!(in alloc; "{}\n{}", came.end, came.written)?;
         same(alloc, front, expected, found.as_str())?;
     }
-    play_long(alloc, &setting)?;
-    play_endless(alloc, &setting)
+    Ok(())
 }
 
 /// A front, spaces and an end.

@@ -1,3 +1,4 @@
+//! The STOP answers of a run that memory stopped, joined to the answer of the whole run.
 use std::alloc::{AllocError, Global};
 
 /// The answer of a run.

@@ -1,3 +1,4 @@
+//! The store refuses each of its calls in turn: that line alone is refused.
 use crate::calm::{Played, play_calmly, same_session};
 use crate::case::Setting;
 use p11_test_data::{Wrong, bad_line, same};

@@ -8,7 +8,7 @@ use Rattle.p11_rk11.specs.Kept.View.{MountedState}
 use Rattle.p11_rk11.specs.Laws.Registers.{TransferHasPlace}
 use Rattle.p11_rk11.specs.Memory.{Words}
 use Rattle.p11_rk11.specs.Calls.Places.{is_on_disk}
-use Rattle.p11_rk11.specs.Registers.{is_due}
+use Rattle.p11_words.specs.DueTurns.{is_due}
 use Rattle.p11_rk11.specs.Starts.{after_start_on}
 use Rattle.p11_rk11.specs.State.{Rk11State, drive_count, drive_of, selected, with_drive, with_registers_and_drive, drive_after_init, disk_after_unmount, is_busy}
 use Rattle.p11_rk11.specs.Kept.View.{Rk11View, view_of, visible_drive}

@@ -4,10 +4,10 @@ use Rattle.std.specs.Prelude.{◌==◌, not, if◌then◌else◌}
 use Rattle.p11_rk11.specs.declared.registers.Registers.{Registers}
 use Rattle.p11_rk11.specs.declared.function.Function.{Function}
 use Rattle.p11_rk11.specs.declared.function.Function.TheVariants.{ControlReset, Write, Read, WriteCheck, Seek, ReadCheck, DriveReset, WriteLock}
-use Rattle.p11_rk11.specs.Errors.{flag, error_word}
+use Rattle.p11_words.specs.Bits.{flag}
 use Rattle.p11_rk11.specs.Functions.{function_number}
 use Rattle.p11_rk11.specs.Laws.Registers.{ShowsItsBits}
-use Rattle.p11_rk11.specs.Registers.{control_word, low_bits, high_bits, is_ready}
+use Rattle.p11_rk11.specs.Registers.{control_word, is_ready}
 
 -- a flag is its weight times 0 or 1
 digit : Bool → ℕ
@@ -29,7 +29,6 @@ digit_is true n e = rw e refl
 digit_is false n e = rw e refl
 
 function_below : (f : Function) → function_number f < 8
-unfolding function_number
 function_below ControlReset = omega arith
 function_below Write = omega arith
 function_below Read = omega arith
@@ -56,7 +55,7 @@ record Digits (w f x d6 d7 d8 d10 d11 d13 d14 d15 : ℕ) : Type 0 where
   b15 : w / 0o100000 % 2 ≡ d15
 
 digits : (w f x d6 d7 d8 d10 d11 d13 d14 d15 : ℕ) → f < 8 → x < 4 → d6 < 2 → d7 < 2 → d8 < 2 → d10 < 2 → d11 < 2 → d13 < 2 → d14 < 2 → d15 < 2
-    → w ≡ f * 0o2 + x * 0o20 + 0o100 * d6 + 0o200 * d7 + (0o400 * d8 + 0o2000 * d10 + 0o4000 * d11 + 0o20000 * d13) + 0o40000 * d14 + 0o100000 * d15
+    → w ≡ f * 0o2 + x * 0o20 + 0o100 * d6 + 0o200 * d7 + 0o400 * d8 + 0o2000 * d10 + 0o4000 * d11 + 0o20000 * d13 + 0o40000 * d14 + 0o100000 * d15
     → Digits w f x d6 d7 d8 d10 d11 d13 d14 d15
 digits w f x d6 d7 d8 d10 d11 d13 d14 d15 hf hx h6 h7 h8 h10 h11 h13 h14 h15 sum =
     record {
@@ -76,12 +75,12 @@ digits w f x d6 d7 d8 d10 d11 d13 d14 d15 hf hx h6 h7 h8 h10 h11 h13 h14 h15 sum
     }
 
 pub shows_its_bits : (r : Registers) → r.bus_address < 0o1000000 → ShowsItsBits r
-unfolding control_word low_bits high_bits
+unfolding control_word
 shows_its_bits r address =
-    let hard : Bool = not (error_word r.errors / 2 == 0) in
-    let any : Bool = not (error_word r.errors == 0) in
+    let hard : Bool = not (r.errors / 2 == 0) in
+    let any : Bool = not (r.errors == 0) in
     let sum : control_word r ≡ function_number r.function * 0o2 + r.bus_address / 0o200000 * 0o20 + 0o100 * digit r.enable + 0o200 * digit (is_ready r)
-    + (0o400 * digit r.stop_on_soft_error + 0o2000 * digit r.format + 0o4000 * digit r.inhibit_increment + 0o20000 * digit r.search_complete)
+    + 0o400 * digit r.stop_on_soft_error + 0o2000 * digit r.format + 0o4000 * digit r.inhibit_increment + 0o20000 * digit r.search_complete
     + 0o40000 * digit hard + 0o100000 * digit any =
     rw (weighed r.enable 0o100, weighed (is_ready r) 0o200, weighed r.stop_on_soft_error 0o400, weighed r.format 0o2000, weighed r.inhibit_increment 0o4000, weighed r.search_complete 0o20000, weighed hard 0o40000, weighed any 0o100000) refl in
     let d = digits (control_word r) (function_number r.function) (r.bus_address / 0o200000) (digit r.enable) (digit (is_ready r)) (digit r.stop_on_soft_error) (digit r.format) (digit r.inhibit_increment) (digit r.search_complete) (digit hard) (digit any)

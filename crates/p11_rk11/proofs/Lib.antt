@@ -1,3 +1,4 @@
+-- Lemmas on the controller: words of sectors and memory, RKCS bit by bit, due turns, and what every event keeps.
 pub mod Closing
 pub mod ControlWord
 pub mod Init

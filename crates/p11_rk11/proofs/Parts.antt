@@ -12,7 +12,7 @@ use Rattle.p11_rk11.specs.Memory.{Words}
 use Rattle.p11_rk11.specs.Place.{sector_number}
 use Rattle.p11_rk11.specs.Functions.{is_write}
 use Rattle.p11_rk11.proofs.Words.{accepted}
-use Rattle.p11_rk11.specs.Registers.{is_due}
+use Rattle.p11_words.specs.DueTurns.{is_due}
 use Rattle.p11_rk11.specs.Drives.{MountedDrive}
 use Rattle.p11_rk11.specs.Kept.View.{MountedState}
 use Rattle.p11_rk11.specs.State.{Rk11State, drive_count, drive_of, selected, with_drive, with_registers_and_drive}

@@ -37,12 +37,12 @@ pub next_number : (p : Place) → p.surface < 2 → is_on_disk p ≡ true → se
 unfolding sector_number next_place is_on_disk
 next_number p surface on =
     let sector : p.sector < 12 = ltb-true p.sector 12 (both_hold _ _ on).0 in
-    elim (cases_lt p.sector 11) [
-      | inl lt ↦ rw (lt-ltb p.sector 11 lt) (omega arith)
+    elim (cases_lt (p.sector + 1) 12) [
+      | inl lt ↦ rw (lt-ltb (p.sector + 1) 12 lt) (omega arith)
       | inr ge ↦
           elim (cases_eq p.surface 0) [
-            | inl none ↦ rw (le-ltb p.sector 11 ge, eq-eqb p.surface 0 none) (omega (arith, sector, ge, none))
-            | inr some ↦ rw (le-ltb p.sector 11 ge, ne_eqb p.surface 0 some) (omega (arith, sector, ge, surface, some))
+            | inl none ↦ rw (le-ltb (p.sector + 1) 12 ge, eq-eqb p.surface 0 none) (omega (arith, sector, ge, none))
+            | inr some ↦ rw (le-ltb (p.sector + 1) 12 ge, ne_eqb p.surface 0 some) (omega (arith, sector, ge, surface, some))
           ]
     ]
 

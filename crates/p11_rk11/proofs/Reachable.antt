@@ -1,5 +1,5 @@
 -- What every event keeps: a running transfer is on a mounted drive, and at a place on its pack.
-use Rattle.std.proofs.Common.{◌≡◌, ℕ, zero, suc, ◌<◌, Bool, true, false, get_or, Option, Some, None, is_some, refl, sym, ap, subst, ◌∙◌, arith, inl, inr}
+use Rattle.std.proofs.Common.{◌≡◌, ℕ, zero, suc, ◌+◌, ◌<◌, Bool, true, false, get_or, Option, Some, None, is_some, refl, sym, ap, subst, ◌∙◌, arith, inl, inr}
 use Rattle.std.specs.Prelude.{◌&&◌, ◌||◌, ◌==◌, not, nat_lt, nat_le, if◌then◌else◌}
 use Rattle.std.proofs.lemmas.Bool.{both_ways, cases_eq, eq-eqb, ltb-true, ne_eqb, cases_Bool}
 use Rattle.p11_overlay.specs.Drive.{Contents}
@@ -17,7 +17,9 @@ use Rattle.p11_rk11.specs.Laws.Registers.{TransferHasPlace}
 use Rattle.p11_rk11.specs.Memory.{Words}
 use Rattle.p11_rk11.specs.Place.{Place, next_place}
 use Rattle.p11_rk11.specs.Calls.Places.{is_on_disk}
-use Rattle.p11_rk11.specs.Registers.{is_due, is_ready, ended, failed, requested, cleared_registers, with_enable, with_control, enable_rises, bit_of, registers_after_sector, next_sector_or_end, counters_advanced, with_difference, words_left}
+use Rattle.p11_rk11.specs.Registers.{is_ready, ended, failed, requested, cleared_registers, with_enable, with_control, enable_rises, registers_after_sector, next_sector_or_end, counters_advanced, with_difference, words_left}
+use Rattle.p11_words.specs.DueTurns.{is_due}
+use Rattle.p11_words.specs.Bits.{bit_of}
 use Rattle.p11_rk11.specs.Starts.{drive_check, registers_after_begin, after_check, after_start, after_start_on, registers_cleared_by_go, disk_after_start, disk_after_go, disk_after_control_write, disk_after_value_write, disk_after_write, registers_with_value}
 use Rattle.p11_rk11.specs.State.{Rk11State, drive_count, drive_of, with_drive, with_registers_and_drive, selected, new_disk, disk_after_init, disk_after_service, disk_after_mount, disk_after_unmount, is_busy, seek_turn}
 use Rattle.p11_rk11.proofs.Turns.{drive_put, drive_left}
@@ -181,7 +183,7 @@ next_on_disk p on inside = grind arith
 next_drive : (p : Place) → (next_place p).drive ≡ p.drive
 unfolding next_place
 next_drive p =
-    elim (cases_Bool (nat_lt p.sector 11)) [
+    elim (cases_Bool (nat_lt (p.sector + 1) 12)) [
       | inl holds ↦ rw holds refl
       | inr fails ↦ rw fails (elim (cases_Bool (p.surface == 0)) [ inl first ↦ rw first refl | inr second ↦ rw second refl ])
     ]

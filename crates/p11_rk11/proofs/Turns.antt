@@ -9,7 +9,8 @@ use Rattle.p11_rk11.specs.declared.registers.Registers.{Registers}
 use Rattle.p11_rk11.specs.Acts.{disk_after_turn, disk_after_transfer, disk_after_seek, disk_after_seeks, after_seek_on, after_sector_on, after_sector, drive_after_sector, drive_after_seek, drive_after_arrival, registers_after_seek, is_refused}
 use Rattle.p11_rk11.specs.Drives.{MountedDrive}
 use Rattle.p11_rk11.specs.Memory.{Words}
-use Rattle.p11_rk11.specs.Registers.{is_due, ended, failed, requested, registers_after_sector, next_sector_or_end}
+use Rattle.p11_rk11.specs.Registers.{ended, failed, requested, registers_after_sector, next_sector_or_end}
+use Rattle.p11_words.specs.DueTurns.{is_due}
 use Rattle.p11_rk11.specs.State.{Rk11State, drive_count, drive_of, with_drive, with_registers_and_drive, selected, seek_turn, seek_due, earlier, due_among, disk_due}
 use Rattle.p11_rk11.specs.Laws.DueTurns.{IsBefore, IsNotAfter}
 use Rattle.p11_rk11.proofs.Parts.{set_get}

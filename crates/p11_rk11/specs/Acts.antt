@@ -4,6 +4,7 @@ use Rattle.std.specs.Prelude.{ℕ, zero, suc, Bool, true, false, not, ◌&&◌, 
 use Rattle.std.specs.Cmp.Lexicographic.{pointwise}
 use Rattle.std.specs.List.{range_with_len}
 use Rattle.p11_overlay.specs.Drive.{Contents, written, sector_of}
+use Rattle.p11_words.specs.DueTurns.{is_due}
 use Rattle.p11_rk11.specs.declared.errors.Failure.TheVariants.{NoMemory}
 use Rattle.p11_rk11.specs.declared.function.Function.{Function}
 use Rattle.p11_rk11.specs.declared.function.Function.TheVariants.{Write, Read, WriteCheck}
@@ -14,7 +15,7 @@ use Rattle.p11_rk11.specs.Drives.{MountedDrive}
 use Rattle.p11_rk11.specs.Functions.{uses_memory, is_read}
 use Rattle.p11_rk11.specs.Memory.{Words, all_held, all_stored}
 use Rattle.p11_rk11.specs.Place.{sector_number}
-use Rattle.p11_rk11.specs.Registers.{is_due, ended, failed, requested, registers_after_sector, words_moved}
+use Rattle.p11_rk11.specs.Registers.{ended, failed, requested, registers_after_sector, words_moved}
 use Rattle.p11_rk11.specs.Sector.{words_of_sector, bytes_of_words, words_from, sector_from}
 use Rattle.p11_rk11.specs.State.{Rk11State, drive_count, drive_of, with_registers_and_drive, selected, seek_turn}
 

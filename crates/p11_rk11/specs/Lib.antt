@@ -1,3 +1,4 @@
+-- The RK11 disk controller with its RK05 drives: its registers, its functions, and what it does in a turn.
 pub mod Acts
 pub mod Address
 pub mod Drives

@@ -1,6 +1,8 @@
 -- The controller's registers: what each shows, and what each event makes of them.
-use Rattle.std.specs.Prelude.{ℕ, ◌+◌, ◌-◌, ◌*◌, ◌/◌, ◌%◌, min, Bool, true, false, not, ◌==◌, ◌&&◌, ◌||◌, nat_eq, nat_le, Option, Some, None, is_some, if◌then◌else◌, [], ◌∷◌}
+use Rattle.std.specs.Prelude.{ℕ, ◌+◌, ◌-◌, ◌*◌, ◌/◌, ◌%◌, min, bit_or, Bool, false, not, ◌==◌, ◌&&◌, ◌||◌, nat_eq, nat_le, Option, Some, None, is_some, if◌then◌else◌, [], ◌∷◌}
 use Rattle.std.specs.Map.{lookup}
+use Rattle.p11_overlay.specs.Geometry.{cylinders, sector_words}
+use Rattle.p11_words.specs.Bits.{flag, bit_of}
 use Rattle.p11_rk11.specs.declared.registers.Registers.{Registers}
 use Rattle.p11_rk11.specs.declared.register.Register.{Register}
 use Rattle.p11_rk11.specs.declared.register.Register.TheVariants as register
@@ -8,7 +10,8 @@ use Rattle.p11_rk11.specs.declared.errors.Failure.{Failure}
 use Rattle.p11_rk11.specs.declared.errors.Failure.TheVariants.{Overrun}
 use Rattle.p11_rk11.specs.declared.function.Function.TheVariants.{ControlReset}
 use Rattle.p11_rk11.specs.Address.{address_after}
-use Rattle.p11_rk11.specs.Errors.{flag, error_word, no_errors, with_failure}
+use Rattle.p11_rk11.specs.Drives.{sector_turns}
+use Rattle.p11_rk11.specs.Errors.{error_bit}
 use Rattle.p11_rk11.specs.Functions.{function_of, function_number, uses_memory}
 use Rattle.p11_rk11.specs.Place.{place_of_word, next_place}
 
@@ -24,16 +27,12 @@ register_at address =
     ∷ (0o777412, register.DiskAddress)
     ∷ (0o777416, register.DataBuffer) ∷ [])
 
--- whether the bit with this weight is set in a word
-abbrev pub bit_of : ℕ → ℕ → Bool
-bit_of word weight = word / weight % 2 == 1
-
 -- INIT and a control reset clear every register and drop the request; the controller is then ready,
 -- as it is whenever no transfer runs.
 unfoldable pub cleared_registers : Registers
 cleared_registers =
     record {
-      errors = no_errors;
+      errors = 0;
       function = ControlReset;
       enable = false;
       stop_on_soft_error = false;
@@ -51,22 +50,14 @@ cleared_registers =
 abbrev pub is_ready : Registers → Bool
 is_ready r = not (is_some r.transfer)
 
--- RKCS 7:0: 3:1 function, 5:4 address 17:16, 6 enable, 7 ready. GO reads as 0.
-unfoldable pub low_bits : Registers → ℕ
-low_bits r =
-    function_number r.function * 0o2 + r.bus_address / 0o200000 * 0o20 + flag r.enable 0o100 + flag (is_ready r) 0o200
-
--- RKCS 13:8: 8 stop on soft error, 10 format, 11 inhibit increment, 13 search complete
-unfoldable pub high_bits : Registers → ℕ
-high_bits r =
-    flag r.stop_on_soft_error 0o400 + flag r.format 0o2000 + flag r.inhibit_increment 0o4000
-    + flag r.search_complete 0o20000
-
--- 15 is 1 exactly where RKER isn't 0, and 14 exactly where a bit of RKER other than 0 is set
+-- RKCS: 3:1 function, 5:4 address 17:16, 6 enable, 7 ready, 8 stop on soft error, 10 format, 11 inhibit increment,
+-- 13 search complete. 14 is 1 exactly where a bit of RKER other than 0 is set, and 15 exactly where RKER isn't 0. GO
+-- reads as 0.
 unfoldable pub control_word : Registers → ℕ
 control_word r =
-    low_bits r + high_bits r + flag (not (error_word r.errors / 2 == 0)) 0o40000
-    + flag (not (error_word r.errors == 0)) 0o100000
+    function_number r.function * 0o2 + r.bus_address / 0o200000 * 0o20 + flag r.enable 0o100 + flag (is_ready r) 0o200
+    + flag r.stop_on_soft_error 0o400 + flag r.format 0o2000 + flag r.inhibit_increment 0o4000
+    + flag r.search_complete 0o20000 + flag (not (r.errors / 2 == 0)) 0o40000 + flag (not (r.errors == 0)) 0o100000
 
 -- A write of RKCS takes enable at any time. While enable is 0 no request stands.
 unfoldable pub with_enable : ℕ → Registers → Registers
@@ -96,7 +87,7 @@ ended r = requested (record r { transfer = None })
 
 -- a function that ends with an error
 unfoldable pub failed : Failure → Registers → Registers
-failed failure r = ended (record r { errors = with_failure failure r.errors })
+failed failure r = ended (record r { errors = bit_or r.errors (error_bit failure) })
 
 -- RKWC is minus the words left; 0 means 65,536.
 unfoldable pub words_left : Registers → ℕ
@@ -104,7 +95,7 @@ words_left r = 0o200000 - r.word_count
 
 -- the words of one sector that move
 unfoldable pub words_moved : Registers → ℕ
-words_moved r = min 256 (words_left r)
+words_moved r = min sector_words (words_left r)
 
 -- After a sector moved, RKWC grows by its words; the memory address does so for the functions that use
 -- memory, unless increment is inhibited; RKDA goes to the next sector.
@@ -121,7 +112,7 @@ counters_advanced r =
 
 -- RKER 0 is set where the words of a write check differed
 unfoldable pub with_difference : Bool → Registers → Registers
-with_difference differs r = if differs then record r { errors = record r.errors { write_check = true } } else r
+with_difference differs r = if differs then record r { errors = bit_or r.errors 1 } else r
 
 -- What follows a moved sector: the function ends where no words were left behind it, else where words differed and RKCS
 -- 8 stops on that, else with overrun where RKDA is past the last cylinder; else the next sector is due 32 turns later.
@@ -129,15 +120,12 @@ unfoldable pub next_sector_or_end : ℕ → Bool → Bool → Registers → Regi
 next_sector_or_end turn was_last differs r =
     if was_last then ended r
     else (if differs && r.stop_on_soft_error then ended r
-    else (if r.disk_address.cylinder == 203 then failed Overrun r
-    else record r { transfer = Some (turn + 32) }))
+    else (if r.disk_address.cylinder == cylinders then failed Overrun r
+    else record r { transfer = Some (turn + sector_turns) }))
 
--- the registers after a sector moved
+-- The registers after a sector moved. Whether it was the last is judged by the words left before it, all else by the
+-- counters after it.
 unfoldable pub registers_after_sector : ℕ → Bool → Registers → Registers
 registers_after_sector turn differs r =
-    next_sector_or_end turn (nat_le (words_left r) 256) differs (counters_advanced (with_difference differs r))
-
--- whether an act with this due turn, if it has one, is due now
-unfoldable pub is_due : ℕ → Option ℕ → Bool
-is_due turn None = false
-is_due turn (Some due) = due == turn
+    let was_last = nat_le (words_left r) sector_words in
+    next_sector_or_end turn was_last differs (counters_advanced (with_difference differs r))

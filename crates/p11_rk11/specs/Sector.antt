@@ -2,11 +2,12 @@
 use Rattle.std.specs.Prelude.{ℕ, ◌-◌, ◌*◌, ◌++◌, List, drop, map, replicate}
 use Rattle.std.specs.List.{flat_map, range_with_len}
 use Rattle.byteorder.specs.Endian.{little_bytes, little_number}
+use Rattle.p11_overlay.specs.Geometry.{sector_words}
 use Rattle.p11_rk11.specs.Memory.{Words, word_at}
 
 -- the words in the bytes of a sector
 unfoldable pub words_of_sector : List ℕ → List ℕ
-words_of_sector bytes = map (λ k. little_number 2 (drop (2 * k) bytes)) (range_with_len 0 256)
+words_of_sector bytes = map (λ k. little_number 2 (drop (2 * k) bytes)) (range_with_len 0 sector_words)
 
 -- the bytes of words
 unfoldable pub bytes_of_words : List ℕ → List ℕ
@@ -18,4 +19,4 @@ words_from address n memory = map (λ k. word_at memory (address k)) (range_with
 
 -- n words of memory, and zeros up to the end of a sector
 unfoldable pub sector_from : (ℕ → ℕ) → ℕ → Words → List ℕ
-sector_from address n memory = words_from address n memory ++ replicate (256 - n) 0
+sector_from address n memory = words_from address n memory ++ replicate (sector_words - n) 0

@@ -1,6 +1,8 @@
 -- What a write of a register does, and how a function begins.
-use Rattle.std.specs.Prelude.{ℕ, ◌+◌, ◌*◌, ◌/◌, true, false, not, ◌&&◌, nat_lt, Option, Some, None, is_some, if◌then◌else◌}
+use Rattle.std.specs.Prelude.{ℕ, ◌+◌, ◌*◌, ◌/◌, true, false, not, ◌&&◌, nat_le, Option, Some, None, is_some, if◌then◌else◌}
 use Rattle.std.specs.Int.{abs_diff}
+use Rattle.p11_overlay.specs.Geometry.{cylinders, track_sectors}
+use Rattle.p11_words.specs.Bits.{bit_of}
 use Rattle.p11_rk11.specs.declared.errors.Failure.{Failure}
 use Rattle.p11_rk11.specs.declared.errors.Failure.TheVariants.{NoSector, NoCylinder, NoDisk, Programming, WriteLockout, DriveError}
 use Rattle.p11_rk11.specs.declared.function.Function.{Function}
@@ -8,10 +10,10 @@ use Rattle.p11_rk11.specs.declared.function.Function.TheVariants.{ControlReset, 
 use Rattle.p11_rk11.specs.declared.register.Register.{Register}
 use Rattle.p11_rk11.specs.declared.register.Register.TheVariants as register
 use Rattle.p11_rk11.specs.declared.registers.Registers.{Registers}
-use Rattle.p11_rk11.specs.Drives.{MountedDrive}
+use Rattle.p11_rk11.specs.Drives.{MountedDrive, sector_turns}
 use Rattle.p11_rk11.specs.Functions.{uses_place, is_write, is_reset}
 use Rattle.p11_rk11.specs.Place.{Place, place_of_word}
-use Rattle.p11_rk11.specs.Registers.{cleared_registers, ended, failed, requested, with_control, with_enable, enable_rises, bit_of, is_ready}
+use Rattle.p11_rk11.specs.Registers.{cleared_registers, ended, failed, requested, with_control, with_enable, enable_rises, is_ready}
 use Rattle.p11_rk11.specs.State.{Rk11State, selected, with_registers_and_drive}
 
 -- The checks at GO of a mounted drive, in their order: it seeks; then, for functions 1 to 5, a sector
@@ -19,12 +21,12 @@ use Rattle.p11_rk11.specs.State.{Rk11State, selected, with_registers_and_drive}
 unfoldable pub drive_check : Registers → MountedDrive → Option Failure
 drive_check r drive =
     if is_some drive.seek then Some DriveError
-    else (if uses_place r.function && nat_lt 11 r.disk_address.sector then Some NoSector
-    else (if uses_place r.function && nat_lt 202 r.disk_address.cylinder then Some NoCylinder
+    else (if uses_place r.function && nat_le track_sectors r.disk_address.sector then Some NoSector
+    else (if uses_place r.function && nat_le cylinders r.disk_address.cylinder then Some NoCylinder
     else (if is_write r.function && drive.contents.protected then Some WriteLockout
     else None)))
 
--- the turn in which the heads have come to a cylinder
+-- the turn in which the heads have come to a cylinder: 16 turns, and one for each cylinder on their way
 abbrev pub arrival : ℕ → ℕ → MountedDrive → ℕ
 arrival turn cylinder drive = turn + 16 + abs_diff cylinder drive.cylinder
 
@@ -48,7 +50,7 @@ registers_after_begin turn ControlReset drive r = r
 registers_after_begin turn Seek drive r = ended r
 registers_after_begin turn DriveReset drive r = ended r
 registers_after_begin turn WriteLock drive r = ended r
-registers_after_begin turn _ drive r = record r { transfer = Some (arrival turn r.disk_address.cylinder drive + 32) }
+registers_after_begin turn _ drive r = record r { transfer = Some (arrival turn r.disk_address.cylinder drive + sector_turns) }
 
 -- a function after the checks of its drive: the first that holds ends it at once
 abbrev pub after_check : ℕ → Registers → MountedDrive → Option Failure → Registers × MountedDrive
@@ -61,7 +63,7 @@ after_start turn r drive = after_check turn r drive (drive_check r drive)
 
 -- GO clears RKER 0 and RKCS 13; the other bits of RKER stay until INIT or a control reset.
 unfoldable pub registers_cleared_by_go : Registers → Registers
-registers_cleared_by_go r = record r { errors = record r.errors { write_check = false }; search_complete = false }
+registers_cleared_by_go r = record r { errors = r.errors / 2 * 2; search_complete = false }
 
 -- a function on a drive, where an empty one is no disk
 abbrev pub after_start_on : ℕ → Registers → Option MountedDrive → Registers × Option MountedDrive

@@ -1,12 +1,13 @@
 -- The controller with its drives, and what is seen of it between acts.
 use Rattle.std.specs.Prelude.{ℕ, zero, suc, ◌+◌, ◌*◌, ◌%◌, min, nat_lt, Bool, false, not, ◌==◌, ◌&&◌, ◌||◌, List, Option, Some, None, is_some, slice_index_or, slice_set, replicate, map, if◌then◌else◌}
 use Rattle.p11_overlay.specs.Drive.{Contents}
+use Rattle.p11_overlay.specs.Geometry.{track_sectors}
+use Rattle.p11_words.specs.Bits.{flag}
 use Rattle.p11_rk11.specs.declared.mounted.PendingSeek.{PendingSeek}
 use Rattle.p11_rk11.specs.declared.register.Register.{Register}
 use Rattle.p11_rk11.specs.declared.register.Register.TheVariants as register
 use Rattle.p11_rk11.specs.declared.registers.Registers.{Registers}
 use Rattle.p11_rk11.specs.Drives.{MountedDrive}
-use Rattle.p11_rk11.specs.Errors.{flag, error_word}
 use Rattle.p11_rk11.specs.Place.{word_of_place}
 use Rattle.p11_rk11.specs.Registers.{cleared_registers, control_word}
 
@@ -42,8 +43,8 @@ new_disk = record { registers = cleared_registers; drives = replicate drive_coun
 -- 6 read/write/seek ready unless the drive seeks, 7 drive ready, 8 counter good, 11 RK05
 unfoldable pub drive_status : ℕ → ℕ → MountedDrive → ℕ
 drive_status turn sector drive =
-    turn % 12 + flag (turn % 12 == sector) 0o20 + flag drive.contents.protected 0o40
-    + flag (not (is_some drive.seek)) 0o100 + 0o4600
+    turn % track_sectors + flag (turn % track_sectors == sector) 0o20 + flag drive.contents.protected 0o40
+    + flag (not (is_some drive.seek)) 0o100 + 0o200 + 0o400 + 0o4000
 
 -- the same, 0 for an empty drive
 unfoldable pub status_of : ℕ → ℕ → Option MountedDrive → ℕ
@@ -54,7 +55,7 @@ status_of turn sector (Some drive) = drive_status turn sector drive
 unfoldable pub disk_word : ℕ → Register → Rk11State → ℕ
 disk_word turn register.DriveStatus s =
     s.registers.finished_seek * 0o20000 + status_of turn s.registers.disk_address.sector (selected s)
-disk_word turn register.Error s = error_word s.registers.errors
+disk_word turn register.Error s = s.registers.errors
 disk_word turn register.ControlStatus s = control_word s.registers
 disk_word turn register.WordCount s = s.registers.word_count
 disk_word turn register.BusAddress s = s.registers.bus_address % 0o200000

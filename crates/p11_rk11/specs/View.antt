@@ -1,10 +1,10 @@
 -- When a disk write needs memory.
 use Rattle.std.specs.Prelude.{ℕ, Bool, true, ◌&&◌, not, nat_eq, Option, Some, None}
 use Rattle.std.specs.List.{list_any}
+use Rattle.p11_words.specs.DueTurns.{is_due}
 use Rattle.p11_rk11.specs.Drives.{MountedDrive}
 use Rattle.p11_rk11.specs.Functions.{is_write}
 use Rattle.p11_rk11.specs.Place.{sector_number}
-use Rattle.p11_rk11.specs.Registers.{is_due}
 use Rattle.p11_rk11.specs.State.{Rk11State, selected}
 
 -- whether a disk write's sector is due in a turn

@@ -3,7 +3,7 @@ ghost use Rattle.std.specs.Prelude.{◌≡◌, ◌<◌, ◌≤◌, ◌^◌, ◌+
 ghost use Rattle.p11_rk11.specs.Acts.{disk_after_turn, after_sector_on, disk_and_memory_with, disk_after_transfer, stores_of, disk_after_seek, disk_after_seeks};
 ghost use Rattle.p11_rk11.specs.Calls.Places.{is_on_disk};
 ghost use Rattle.p11_rk11.specs.Place.{sector_number};
-ghost use Rattle.p11_rk11.specs.Registers.{is_due};
+ghost use Rattle.p11_words.specs.DueTurns.{is_due};
 ghost use Rattle.p11_rk11.specs.State.{selected, drive_count};
 ghost use Rattle.p11_rk11.specs.Kept.View.{IsPreparedFor, KeepsPrepared, IsPreparedSector};
 ghost use Rattle.p11_rk11.specs.View.{needs_memory, write_is_due, is_listed};
@@ -11,8 +11,8 @@ ghost use Rattle.p11_rk11.specs.View.{needs_memory, write_is_due, is_listed};
 use crate::bay;
 use crate::controller::{DRIVES, Rk11};
 use crate::memory::WordMemory;
-use crate::registers::is_due;
 use crate::sector::Stores;
+use p11_words::is_due;
 use std::alloc::{AllocError, Allocator};
 
 impl<A: Allocator> Rk11<A> {

@@ -1,3 +1,4 @@
+//! The memory address of a transfer.
 ghost use Rattle.std.specs.Prelude.{◌≡◌, ◌<◌, ◌≤◌, ◌+◌, ◌*◌, ◌/◌, ◌%◌};
 ghost use Rattle.p11_rk11.specs.Address.{address_after, word_address};
 

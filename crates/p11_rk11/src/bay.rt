@@ -16,8 +16,9 @@ use crate::errors::Failure;
 use crate::memory::WordMemory;
 use crate::mounted::Mounted;
 use crate::place::DiskAddress;
-use crate::registers::{Registers, is_due};
+use crate::registers::Registers;
 use p11_overlay::Drive;
+use p11_words::is_due;
 use std::alloc::{AllocError, Allocator};
 
 /// The pack, if one is mounted.

@@ -6,18 +6,19 @@ ghost use Rattle.p11_rk11.specs.Calls.Heads.{heads_at};
 
 use crate::bay;
 use crate::drives::Drives;
-use crate::errors::{Failure, bit};
+use crate::errors::Failure;
 use crate::mounted::Mounted;
 use crate::register::Register;
 use crate::registers::Registers;
 use p11_overlay::Drive;
+use p11_words::bit;
 use std::alloc::{Allocator, Global};
 use std::marker::Model;
 
 /// The number of drives. Their numbers begin with 0.
 pub const DRIVES: usize = 8;
 
-/// Where the heads of a drive are.
+/// Where the heads of a mounted drive are, and until when it seeks.
 #[derive(Clone, Copy)]
 pub struct Heads {
     /// The cylinder, 0 to 202.
@@ -49,7 +50,7 @@ impl<A: Allocator> Model for Rk11<A> {
 impl<A: Allocator> Rk11<A> {
     ghost use Rattle.p11_rk11.specs.Kept.View.{contents_lent};
 
-    /// A controller with no drive mounted.
+    /// A controller as after INIT, with no pack mounted on any of its eight drives.
     #[tactic(auto, unfolding(crate::specs::State::new_disk))]
     pub fn new() -> Self
         ensures state { result.state ≡ new_disk }
@@ -61,14 +62,14 @@ impl<A: Allocator> Rk11<A> {
         }
     }
 
-    /// The word that a register shows in a turn.
+    /// The word that a register shows in a turn, on which the sector counter in RKDS depends. A read changes nothing.
     #[tactic(auto, unfolding(crate::specs::State::disk_word))]
     pub fn read(&self, turn: u64, register: Register) -> u16
         ensures { result ≡ disk_word turn register self.now.state }
     {
         match register {
             Register::DriveStatus => self.drive_status(turn),
-            Register::Error => self.registers.errors.word(),
+            Register::Error => self.registers.errors,
             Register::ControlStatus => self.registers.control_word(),
             Register::WordCount => self.registers.word_count,
             Register::BusAddress => self.registers.bus_address.low(),
@@ -99,7 +100,8 @@ impl<A: Allocator> Rk11<A> {
         )
     }
 
-    /// Writes a register in a turn.
+    /// Writes a word to a register in a turn, at most 2^62. RKDS, RKER and RKDB ignore it. While a transfer runs RKCS
+    /// takes its enable bit alone, and the others ignore it; else GO in RKCS begins the function.
     #[tactic(auto, unfolding(crate::specs::Starts::disk_after_write))]
     pub fn write(&mut self, turn: u64, register: Register, word: u16)
         requires { turn ≤ 2 ^ 62 }
@@ -269,7 +271,7 @@ impl<A: Allocator> Rk11<A> {
         self.registers.disk_address.drive() == n
     }
 
-    /// The pack of a drive, if one is mounted.
+    /// The pack of drive `n`, and none if no pack is mounted on it or there is no such drive.
     pub fn drive(&self, n: usize) -> Option<&Drive<A>>
         ensures contents { contents_lent (option_copied result) ≡ contents_of (drive_of self.now.state n) }
         ensures mounted { is_some result ≡ is_some (drive_of self.now.state n) }
@@ -281,7 +283,7 @@ impl<A: Allocator> Rk11<A> {
         }
     }
 
-    /// Where the heads of a mounted drive are.
+    /// The cylinder of drive `n`'s heads, and the due turn of its seek. A pack is mounted on it.
     pub fn heads(&self, n: usize) -> Heads
         requires exists { n < drive_count }
         requires mounted { is_some (drive_of self.now.state n) ≡ true }

@@ -1,3 +1,4 @@
+//! The functions of the controller.
 ghost use Rattle.std.specs.Prelude.{◌≡◌, ◌<◌};
 ghost use Rattle.p11_rk11.specs.Functions.{function_of, function_number, uses_place, uses_memory, is_write, is_read, is_reset};
 
@@ -15,7 +16,7 @@ pub enum Function {
 }
 
 impl Function {
-    /// The function with a number.
+    /// The function with a number from 0 to 7.
     #[tactic(auto, unfolding(crate::specs::Functions::function_of))]
     pub(crate) fn from_number(number: u16) -> Function
         requires { number < 8 }
@@ -33,7 +34,7 @@ impl Function {
         }
     }
 
-    #[tactic(auto, unfolding(crate::specs::Functions::function_number))]
+    /// The function's number, 0 to 7.
     pub(crate) fn number(self) -> u16
         ensures value { result ≡ function_number self }
         ensures bound { result < 8 }
@@ -65,25 +66,28 @@ impl Function {
         }
     }
 
+    /// Whether it is the write.
     #[tactic(auto, unfolding(crate::specs::Functions::is_write))]
     pub(crate) fn is_write(self) -> bool
         ensures { result ≡ is_write self }
     {
-        matches!(self, Function::Write)
+        self.number() == 1
     }
 
+    /// Whether it is the read.
     #[tactic(auto, unfolding(crate::specs::Functions::is_read))]
     pub(crate) fn is_read(self) -> bool
         ensures { result ≡ is_read self }
     {
-        matches!(self, Function::Read)
+        self.number() == 2
     }
 
+    /// Whether it is the control reset.
     #[tactic(auto, unfolding(crate::specs::Functions::is_reset))]
     pub(crate) fn is_reset(self) -> bool
         ensures { result ≡ is_reset self }
     {
-        matches!(self, Function::ControlReset)
+        self.number() == 0
     }
 
     /// Whether words of memory are read or written.

@@ -17,12 +17,12 @@ ghost use Rattle.p11_rk11.specs.Laws.DueTurns.{IsBefore, IsNotAfter};
 
 use crate::controller::DRIVES;
 
-/// There are eight drives.
+/// There are eight drives, as many as the definitions have.
 pub fn number_of_drives()
     ensures { DRIVES ≡ drive_count }
 {}
 
-/// INIT twice is INIT once.
+/// INIT twice is INIT once, in every state of the controller.
 pub fn init_twice_is_init_once()
     ensures { (s : Rk11State) → disk_after_init (disk_after_init s) ≡ disk_after_init s }
 {}

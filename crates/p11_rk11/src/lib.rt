@@ -17,7 +17,6 @@ mod registers;
 mod sector;
 
 pub use controller::{DRIVES, Heads, Rk11};
-pub use errors::Errors;
 pub use function::Function;
 pub use laws::{
     control_status_shows_its_bits, due_turns_are_later, init_twice_is_init_once, memory_stays,

@@ -1,3 +1,4 @@
+//! Memory as the controller sees it.
 ghost use Rattle.std.specs.Prelude.{◌≡◌, ℕ, ◌+◌, ◌<◌, ◌≤◌, true};
 ghost use Rattle.p11_rk11.specs.Memory.{Words, has_word, word_at, stored};
 

@@ -14,17 +14,18 @@ ghost use Rattle.p11_rk11.specs.State.{drive_status, seek_turn, drive_after_moun
 ghost use Rattle.p11_rk11.specs.Calls.Heads.{heads_at};
 
 use crate::controller::Heads;
-use crate::errors::{Failure, flag};
+use crate::errors::Failure;
 use crate::function::Function;
 use crate::memory::WordMemory;
 use crate::place::{Cylinder, DiskAddress};
 use crate::registers::Registers;
 use crate::sector::{bytes_of, words_of};
 use p11_overlay::Drive;
+use p11_words::flag;
 use std::alloc::{AllocError, Allocator, Global};
 use std::marker::Model;
 
-/// A seek under way.
+/// A seek under way: where the heads go, and when they arrive.
 #[derive(Clone, Copy)]
 pub struct PendingSeek {
     /// The turn in which the heads arrive.
@@ -105,7 +106,9 @@ impl<A: Allocator> Mounted<A> {
             + flag(is_reached, 0o20)
             + flag(self.drive.protected(), 0o40)
             + flag(self.seek.is_none(), 0o100)
-            + 0o4600
+            + 0o200
+            + 0o400
+            + 0o4000
     }
 
     /// The first check at GO that holds.
@@ -118,9 +121,9 @@ impl<A: Allocator> Mounted<A> {
         let uses_place = registers.function.uses_place();
         if self.seek.is_some() {
             Some(Failure::DriveError)
-        } else if uses_place && registers.disk_address.sector() > 11 {
+        } else if uses_place && registers.disk_address.sector() >= 12 {
             Some(Failure::NoSector)
-        } else if uses_place && registers.disk_address.cylinder() > 202 {
+        } else if uses_place && registers.disk_address.cylinder() >= 203 {
             Some(Failure::NoCylinder)
         } else if registers.function.is_write() && self.drive.protected() {
             Some(Failure::WriteLockout)

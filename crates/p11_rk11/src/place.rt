@@ -1,10 +1,11 @@
+//! Drives, cylinders and the disk address register, RKDA.
 ghost use Rattle.std.specs.Prelude.{◌≡◌, ◌<◌, ◌^◌, true};
 ghost use Rattle.p11_rk11.specs.Place.{place_of_word, word_of_place, sector_number, next_place};
 ghost use Rattle.p11_rk11.specs.Calls.Places.{is_on_disk};
 
 use std::marker::Model;
 
-/// The number of a drive, 0 to 7.
+/// The number of one of the eight drives, 0 to 7.
 #[derive(Clone, Copy)]
 pub struct DriveNumber(u8);
 
@@ -36,7 +37,7 @@ impl DriveNumber {
     }
 }
 
-/// A cylinder of a pack, 0 to 202.
+/// The number of one of a pack's 203 cylinders, 0 to 202.
 #[derive(Clone, Copy)]
 pub struct Cylinder(u8);
 

@@ -1,7 +1,8 @@
+//! The controller's registers and their bus addresses.
 ghost use Rattle.std.specs.Prelude.{◌≡◌};
 ghost use Rattle.p11_rk11.specs.Registers.{register_at};
 
-/// The controller's registers.
+/// A register of the controller. Each has a word in the I/O page.
 #[derive(Clone, Copy, PartialEq, Eq, Debug)]
 pub enum Register {
     /// RKDS, 777400.

@@ -3,20 +3,21 @@ ghost use Rattle.std.specs.Prelude.{◌≡◌, ◌<◌, ◌≤◌, ◌+◌, ◌^
 ghost use Rattle.p11_rk11.specs.Acts.{registers_after_seek};
 ghost use Rattle.p11_rk11.specs.Calls.Places.{is_on_disk};
 ghost use Rattle.p11_rk11.specs.Starts.{registers_cleared_by_go, registers_with_value};
-ghost use Rattle.p11_rk11.specs.Registers.{is_due, cleared_registers, control_word, low_bits, high_bits, with_enable, enable_rises, with_control, words_left, words_moved, ended, failed, requested, counters_advanced, with_difference, next_sector_or_end, registers_after_sector, is_ready};
+ghost use Rattle.p11_rk11.specs.Registers.{cleared_registers, control_word, with_enable, enable_rises, with_control, words_left, words_moved, ended, failed, requested, counters_advanced, with_difference, next_sector_or_end, registers_after_sector, is_ready};
 
 use crate::address::BusAddress;
-use crate::errors::{Errors, Failure, bit, flag};
+use crate::errors::{Failure, WRITE_CHECK};
 use crate::function::Function;
 use crate::place::{DiskAddress, DriveNumber};
 use crate::register::Register;
 use crate::sector::Span;
+use p11_words::{bit, flag};
 
-/// The registers of the controller.
+/// What the controller's registers hold, with the running transfer and the request for an interrupt.
 #[derive(Drop)]
 pub struct Registers {
-    /// RKER.
-    pub errors: Errors,
+    /// RKER: bit 0 after a write check that found a difference, and the bit of each hard error.
+    pub errors: u16,
     /// RKCS 3:1.
     pub function: Function,
     /// RKCS 6.
@@ -50,7 +51,7 @@ impl Registers {
         ensures { result ≡ cleared_registers }
     {
         Registers {
-            errors: Errors::NONE,
+            errors: 0,
             function: Function::ControlReset,
             enable: false,
             stop_on_soft_error: false,
@@ -71,11 +72,16 @@ impl Registers {
     pub(crate) fn control_word(&self) -> u16
         ensures { result ≡ control_word self.now }
     {
-        let errors = self.errors.word();
-        self.low_bits()
-            + self.high_bits()
-            + flag(errors >> 1 != 0, 0o40000)
-            + flag(errors != 0, 0o100000)
+        self.function.number() * 0o2
+            + self.bus_address.extension() * 0o20
+            + flag(self.enable, 0o100)
+            + flag(self.is_ready(), 0o200)
+            + flag(self.stop_on_soft_error, 0o400)
+            + flag(self.format, 0o2000)
+            + flag(self.inhibit_increment, 0o4000)
+            + flag(self.search_complete, 0o20000)
+            + flag(self.errors / 2 != 0, 0o40000)
+            + flag(self.errors != 0, 0o100000)
     }
 
     /// RKCS takes its enable bit, and says whether that has risen. Without enable no request stands.
@@ -154,32 +160,8 @@ impl Registers {
     pub(crate) fn fail(&mut self, failure: Failure)
         ensures { self.new ≡ failed failure self.old }
     {
-        self.errors = self.errors.with(failure);
+        self.errors |= failure.bit();
         self.end();
-    }
-
-    /// RKCS 7:0.
-    #[tactic(auto, unfolding(crate::specs::Registers::low_bits))]
-    fn low_bits(&self) -> u16
-        ensures value { result ≡ low_bits self.now }
-        ensures bound { result ≤ 0o376 }
-    {
-        self.function.number() * 0o2
-            + self.bus_address.extension() * 0o20
-            + flag(self.enable, 0o100)
-            + flag(self.is_ready(), 0o200)
-    }
-
-    /// RKCS 13:8.
-    #[tactic(auto, unfolding(crate::specs::Registers::high_bits))]
-    fn high_bits(&self) -> u16
-        ensures value { result ≡ high_bits self.now }
-        ensures bound { result ≤ 0o26400 }
-    {
-        flag(self.stop_on_soft_error, 0o400)
-            + flag(self.format, 0o2000)
-            + flag(self.inhibit_increment, 0o4000)
-            + flag(self.search_complete, 0o20000)
     }
 
     /// Whether no transfer runs.
@@ -189,6 +171,7 @@ impl Registers {
         self.transfer.is_none()
     }
 
+    /// How many words the function has left to move, 1 to 65,536.
     #[tactic(auto, unfolding(crate::specs::Registers::words_left))]
     pub(crate) fn words_left(&self) -> u32
         ensures value { result ≡ words_left self.now }
@@ -256,7 +239,7 @@ impl Registers {
     pub(crate) fn clear_at_go(&mut self)
         ensures { self.new ≡ registers_cleared_by_go self.old }
     {
-        self.errors.write_check = false;
+        self.errors = self.errors / 2 * 2;
         self.search_complete = false;
     }
 
@@ -280,20 +263,9 @@ impl Registers {
     {
         let was_last = self.words_left() <= 256;
         if differs {
-            self.errors.write_check = true;
+            self.errors |= WRITE_CHECK;
         }
         self.count();
         self.go_on(turn, was_last, differs);
-    }
-}
-
-/// Whether an act with this due turn, if it has one, is due now.
-#[tactic(auto, unfolding(crate::specs::Registers::is_due))]
-pub(crate) fn is_due(turn: u64, due: Option<u64>) -> bool
-    ensures { result ≡ is_due turn due }
-{
-    match due {
-        Some(due) => due == turn,
-        None => false,
     }
 }

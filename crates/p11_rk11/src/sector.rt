@@ -78,7 +78,7 @@ impl Stores {
         }
     }
 
-    /// How many they are, at most 256.
+    /// How many addresses they are, at most 256; 0 where nothing is stored.
     pub fn len(&self) -> u32
         ensures value { result ≡ length self.now }
         ensures bound { result ≤ 256 }
@@ -86,7 +86,7 @@ impl Stores {
         self.span.count
     }
 
-    /// The address of word `k`.
+    /// The bus address, of 18 bits, to which word `k` is stored, counted from 0.
     pub fn address(&self, k: u32) -> u32
         requires { k < length self.now }
         ensures { result ≡ slice_index self.now k }

@@ -1,5 +1,6 @@
 -- How the program ends: its exit status, and what it says.
-use Rattle.std.specs.Prelude.{ℕ, Bool, true, false, ◌&&◌, not, List, [], codes, if◌then◌else◌}
+use Rattle.std.specs.Prelude.{ℕ, Bool, true, false, ◌&&◌, not, List, [], Option, ⊤, codes, if◌then◌else◌}
+use Rattle.std.specs.Io.KnownBytes.{Appends}
 use Rattle.std.specs.String.{string_bytes}
 use Rattle.p11_arguments.specs.declared.arguments.Unasked.{Unasked}
 use Rattle.p11_arguments.specs.declared.arguments.Unasked.TheVariants as reasons
@@ -51,3 +52,13 @@ status_after cause said = if is_help cause && not said then status_of (Session W
 
 unfoldable pub text_after : Cause → Bool → List ℕ
 text_after cause said = if is_help cause && not said then text_of (Session Writing) else []
+
+-- Where the bytes of standard output are known: all of the help's text is written to it. The other causes say nothing there.
+abbrev pub SaysHelp : Cause → Option (List ℕ) → Option (List ℕ) → Type 0
+SaysHelp Done old new = ⊤
+SaysHelp (Help text) old new = Appends old new (string_bytes text)
+SaysHelp (Usage text) old new = ⊤
+SaysHelp NotUtf8 old new = ⊤
+SaysHelp BadSize old new = ⊤
+SaysHelp NoMemory old new = ⊤
+SaysHelp (Session fault) old new = ⊤

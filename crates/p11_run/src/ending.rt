@@ -1,3 +1,4 @@
+//! The exit status and the message of each way in which the program ends.
 ghost use Rattle.std.specs.Prelude.{◌≡◌};
 ghost use Rattle.p11_run.specs.Endings.{cause_of, status_of, text_of, status_after, text_after};
 ghost use Rattle.p11_run.specs.declared.ending.Cause.TheVariants as causes;

@@ -4,50 +4,34 @@
 //! answers to standard output.
 #![tactic(auto)]
 
-ghost use Rattle.std.specs.Prelude.{◌≡◌, ◌<◌, Bool};
-ghost use Rattle.std.specs.Process.{exit_status};
-ghost use Rattle.p11_run.specs.Endings.{status_after};
+ghost use Rattle.std.specs.Prelude.{◌≡◌, ◌<◌};
 
 mod ending;
+mod finish;
+mod playing;
 mod script_reader;
 mod settings;
 #[cfg(test)]
 mod tests;
 
-use crate::ending::{Cause, ending, ending_after};
+use crate::ending::Cause;
+use crate::finish::finish;
+use crate::playing::play_script;
 use crate::script_reader::ScriptReader;
 use crate::settings::{Launch, settings};
 use p11_files::FileStore;
-use p11_panel::{Panel, StdReader, StdWriter, session};
+use p11_panel::Panel;
 use std::marker::Brand;
 use std::process::ExitCode;
 use std::sync::ledger::{Blank, Ledger};
 use std::{env, io};
 
 fn main(rt: HostRuntime) -> ExitCode {
-    match run(&rt) {
-        Ok(()) => finish(&rt, &Cause::Done),
-        Err(cause) => finish(&rt, &cause),
-    }
-}
-
-/// Says why the program ends: its exit status, which depends on whether that could be said.
-fn finish(rt: &HostRuntime, cause: &Cause) -> ExitCode
-    ensures { (said : Bool) × (exit_status result ≡ status_after cause.now said) }
-{
-    let (status, rest) = ending_after(cause, say(rt, cause));
-    let _ = rt.eprint(rest);
-    ExitCode::from(status)
-}
-
-/// Says why the program ends: help on standard output, and all else on standard error. Whether that could be written.
-fn say(rt: &HostRuntime, cause: &Cause) -> bool {
-    let (_, text) = ending(cause);
-    match cause {
-        Cause::Done => true,
-        Cause::Help(_) => rt.print(text).is_ok(),
-        _ => rt.eprint(text).is_ok(),
-    }
+    let cause = match run(&rt) {
+        Ok(()) => Cause::Done,
+        Err(cause) => cause,
+    };
+    ExitCode::from(finish(&mut io::writer(&rt), &mut rt.stderr(), &cause))
 }
 
 /// Reads the command line, and runs the script that it names.
@@ -79,7 +63,7 @@ pub(crate) fn run_script(rt: &HostRuntime, launch: &Launch<'_>) -> Result<(), Ca
     run_counted::<Brand>(rt, launch, Blank::new(1))
 }
 
-/// The same, with the files of the system, whose refusals are counted from a blank on.
+/// Runs a script as `run_script` does, with the files of the system, whose refusals are counted from a blank on.
 fn run_counted<L: Ledger>(rt: &HostRuntime, launch: &Launch<'_>, blank: Blank) -> Result<(), Cause>
     requires name { blank.name ≡ L.name }
     requires parts { blank.parts ≡ L.parts }
@@ -89,7 +73,7 @@ fn run_counted<L: Ledger>(rt: &HostRuntime, launch: &Launch<'_>, blank: Blank) -
     run_on::<L>(rt, launch, &mut panel, blank)
 }
 
-/// The same on this machine.
+/// Opens the script and runs the session on this machine.
 fn run_on<L: Ledger>(
     rt: &HostRuntime,
     launch: &Launch<'_>,
@@ -101,12 +85,6 @@ fn run_on<L: Ledger>(
     requires some { 0 < blank.parts }
 {
     let mut store = FileStore::<L>::new(rt, blank);
-    let mut script = StdReader {
-        inner: ScriptReader::open(rt, launch)?,
-    };
-    let mut output = StdWriter {
-        inner: io::writer(rt),
-    };
-    session(rt.alloc(), panel, &mut store, &mut script, &mut output)?;
-    Ok(())
+    let script = ScriptReader::open(rt, launch)?;
+    play_script(rt.alloc(), panel, &mut store, script, io::writer(rt))
 }

@@ -1,3 +1,4 @@
+//! Turns the command line into the machine's sizes and the script's name.
 ghost use Rattle.std.specs.Prelude.{◌≡◌, ◌↔◌, IsTrue, IfOk, IfErr, map, codes};
 ghost use Rattle.std.specs.String.{string_bytes};
 ghost use Rattle.p11_arguments.specs.CommandLine.{rows_in, script_in};

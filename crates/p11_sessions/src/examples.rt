@@ -1,15 +1,17 @@
+//! Reads a file of examples, plays each in its eight ways, and compares the answers with the file's.
+use crate::difference::{Difference, Failure, Way};
 use crate::outline::{filled, joined};
 use crate::playing::{Play, answers};
 use crate::transcript::{Transcript, push_line};
 use p11_panel::Config;
-use p11_test_data::{StoredFile, Wrong, bad_line, number, same};
+use p11_test_data::{StoredFile, Wrong, bad_line, number};
 use std::alloc::Global;
 use std::mem;
 
 /// Thousands of words of memory that a machine has where a file says nothing of it.
 const KWORDS: u32 = 28;
 
-/// The numbers of decoded words that machines keep.
+/// The numbers of decoded instructions that machines keep.
 const KEPT: [u32; 4] = [0, 1, 1024, 4096];
 
 /// A file of examples, read line by line. The first characters of a line say what it is:
@@ -39,7 +41,11 @@ pub(crate) struct Examples {
     left: Vec<StoredFile>,
     /// Whether the example has had a row.
     has_rows: bool,
+    /// The number of the line that was read last, and of the one that began the example.
+    line: u32,
+    begun: u32,
     count: u32,
+    failures: Vec<Failure>,
 }
 
 impl Examples {
@@ -53,7 +59,10 @@ impl Examples {
             own: String::new(alloc),
             left: Vec::new(alloc),
             has_rows: false,
+            line: 0,
+            begun: 0,
             count: 0,
+            failures: Vec::new(alloc),
         }
     }
 
@@ -62,8 +71,14 @@ impl Examples {
         self.count
     }
 
+    /// Those that weren't answered as they are written down.
+    pub(crate) fn failures(&self) -> &[Failure] {
+        self.failures.as_slice()
+    }
+
     /// Reads the next line.
     pub(crate) fn take(&mut self, alloc: Global, line: &str) -> Result<(), Wrong> {
+        self.line = self.line.saturating_add(1);
         let was_outlining = mem::replace(&mut self.is_outlining, false);
         if line.is_empty() || line.starts_with("#") {
             return Ok(());
@@ -97,7 +112,8 @@ impl Examples {
         if !self.has_rows && !self.own.is_empty() {
             let name = self.name.clone()?;
             let own = self.own.clone()?;
-            self.play(alloc, name.as_str(), own.as_str())?;
+            let begun = self.begun;
+            self.play(alloc, begun, name, own.as_str())?;
         }
         self.own.clear();
         self.left.clear();
@@ -107,6 +123,7 @@ impl Examples {
 
     fn begin(&mut self, alloc: Global, name: &str) -> Result<(), Wrong> {
         self.finish(alloc)?;
+        self.begun = self.line;
         self.name = String::from_str(alloc, name)?;
         Ok(())
     }
@@ -135,9 +152,14 @@ impl Examples {
         }
         let outline = joined(alloc, self.outline.as_str(), self.own.as_str())?;
         let text = filled(alloc, outline.as_str(), cells.as_slice())?;
-        let name = format!(in alloc; "{}: {row}", self.name)?;
+        let name = if self.name.is_empty() {
+            String::from_str(alloc, row)?
+        } else {
+            format!(in alloc; "{}: {row}", self.name)?
+        };
         self.has_rows = true;
-        self.play(alloc, name.as_str(), text.as_str())
+        let line = self.line;
+        self.play(alloc, line, name, text.as_str())
     }
 
     /// Takes a file that the example leaves, or more of the last one.
@@ -152,20 +174,47 @@ impl Examples {
         Ok(())
     }
 
-    /// Plays an example, and compares what it answers.
-    fn play(&mut self, alloc: Global, name: &str, text: &str) -> Result<(), Wrong> {
+    /// Plays an example, which this line of the file began, in each way, and keeps what differs.
+    fn play(&mut self, alloc: Global, line: u32, name: String, text: &str) -> Result<(), Wrong> {
+        let mut ways = 0u32;
+        let mut first = None;
         for flushes in [false, true] {
             let transcript = Transcript::of(alloc, text, flushes)?;
             for kept in KEPT {
-                let answered = self.answered(alloc, transcript.script(), kept)?;
-                same(alloc, name, transcript.answers(), answered.as_str())?;
+                if let Some(difference) = self.differs(alloc, &transcript, kept)? {
+                    ways = ways.saturating_add(1);
+                    if first.is_none() {
+                        first = Some((Way { kept, flushes }, difference));
+                    }
+                }
             }
         }
         self.count = self.count.saturating_add(1);
+        if let Some((first, difference)) = first {
+            self.failures.push(Failure {
+                line,
+                name,
+                ways,
+                first,
+                difference,
+            })?;
+        }
         Ok(())
     }
 
-    /// What a session over this script answers, on a new machine that keeps so many decoded words.
+    /// Where the answers aren't those that are written down, on a new machine that keeps so many decoded instructions.
+    fn differs(
+        &self,
+        alloc: Global,
+        transcript: &Transcript,
+        kept: u32,
+    ) -> Result<Option<Difference>, Wrong> {
+        let script = transcript.script(alloc)?;
+        let answered = self.answered(alloc, script.as_str(), kept)?;
+        Ok(transcript.difference(alloc, answered.as_str())?)
+    }
+
+    /// What a session over this script answers, on a new machine that keeps so many decoded instructions.
     fn answered(&self, alloc: Global, script: &str, kept: u32) -> Result<String, Wrong> {
         let Ok(config) = Config::new(self.kwords, kept) else {
             return Err(bad_line(alloc, "! of a size that no machine has"));
@@ -183,7 +232,7 @@ impl Examples {
             return Ok(String::from_str(alloc, "bytes that are no text")?);
         };
         if !has_all {
-            push_line(&mut text, "and leaves other files")?;
+            push_line(&mut text, "and other files are left in the store")?;
         }
         Ok(text)
     }

@@ -1,3 +1,4 @@
+//! Fills the rows of a table of examples into the outline above it.
 use crate::transcript::push_line;
 use p11_test_data::{Wrong, bad_line};
 use std::alloc::Global;

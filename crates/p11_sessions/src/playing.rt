@@ -1,3 +1,4 @@
+//! Plays one script on a new machine with a store in memory.
 ghost use Rattle.std.specs.Prelude.{◌≡◌, ◌<◌};
 
 use p11_panel::{Config, MemoryStore, NoMemory, Panel, StdReader, StdWriter, Store, session};
@@ -21,7 +22,7 @@ pub(crate) fn answers(alloc: Global, play: &Play<'_>) -> Result<(Vec<u8>, bool),
     answers_counted::<Brand>(alloc, Blank::new(1), play)
 }
 
-/// The same, with a store whose refusals are counted from a blank on.
+/// Plays as `answers` does, with a store whose refusals are counted from a blank on.
 fn answers_counted<L: Ledger>(
     alloc: Global,
     blank: Blank,

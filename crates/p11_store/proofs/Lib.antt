@@ -1,1 +1,2 @@
+-- A lemma on the store that keeps its files in memory.
 pub mod FileLemmas

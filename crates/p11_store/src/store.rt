@@ -1,3 +1,4 @@
+//! The trait of what keeps a session's files, packs and tapes, and the count of what it refused.
 ghost use Rattle.std.specs.Prelude.{◌≡◌, ◌+◌, ◌<◌, IfOk, IfErr, OnOk};
 
 use std::alloc::Allocator;
@@ -61,7 +62,7 @@ impl<L: Ledger> Refusals<L> {
         Refusals { book, share }
     }
 
-    /// One more.
+    /// Counts one more refusal.
     pub fn count(&mut self)
         ensures { self.new ≡ self.old + 1 }
     {

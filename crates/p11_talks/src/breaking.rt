@@ -81,16 +81,45 @@ fn tear(
 /// Whether each text is a front of the whole dialogue's, up to the byte that was not taken. After a read that failed the
 /// console says what it says at an end.
 fn are_fronts(whole: &Came, came: &Came, trouble: Trouble) -> bool {
-    let whole_record = whole.record.as_str().as_bytes();
-    let record = came.record.as_str().as_bytes();
     let is_ended = trouble.read > 0;
-    is_front(whole_record, record, trouble.record)
+    is_record_front(whole.record.as_str(), came.record.as_str(), trouble.record)
         && is_front(
             whole.screen.as_slice(),
             came.screen.as_slice(),
             trouble.screen,
         )
         && (is_ended || is_front(whole.said.as_slice(), came.said.as_slice(), trouble.said))
+}
+
+/// Whether a record is a front of the whole one; its last line may be a run that was cut short.
+fn is_record_front(whole: &str, came: &str, room: usize) -> bool {
+    if is_front(whole.as_bytes(), came.as_bytes(), room) {
+        return true;
+    }
+    let count = came.lines().count();
+    let mut others = whole.lines();
+    for (at, line) in came.lines().enumerate() {
+        let Some(other) = others.next() else {
+            return false;
+        };
+        if line != other {
+            return at.saturating_add(1) == count && is_shorter_run(line, other);
+        }
+    }
+    true
+}
+
+/// Whether both lines are runs, and the first one has fewer turns.
+fn is_shorter_run(line: &str, other: &str) -> bool {
+    match (turns_of(line), turns_of(other)) {
+        (Some(made), Some(all)) => made < all,
+        _ => false,
+    }
+}
+
+/// The turns of a run's line.
+fn turns_of(line: &str) -> Option<u64> {
+    line.strip_prefix("step ")?.parse::<u64>().ok()
 }
 
 /// Whether a writer with this room has a front of the whole text, up to the room where that is less.

@@ -2,10 +2,11 @@
 ghost use Rattle.std.specs.Prelude.{◌≡◌, ◌<◌};
 
 use crate::escapes::line_of_keys;
-use crate::keys::{Keys, MemoryReasons};
-use crate::records::{new_panel, play_record, shown};
+use crate::keys::{Keys, MemoryHost};
+use crate::records::{files_shown, new_panel, play_record, shown};
 use crate::talk::Talk;
-use p11_dialogue::{Parting, Person, Station, converse};
+use linked_list_allocator::LocalHeap;
+use p11_dialogue::{Parting, Person, Record, Station, converse};
 use p11_panel::Panel;
 use p11_test_data::{PieceWriter, Shelf, StoredFile, Wrong, same, text_of};
 use std::alloc::{Allocator, Global};
@@ -44,8 +45,9 @@ pub(crate) const CALM: Trouble = Trouble {
 pub(crate) struct Came {
     pub(crate) screen: Vec<u8>,
     pub(crate) said: Vec<u8>,
+    pub(crate) errors: Vec<u8>,
     pub(crate) record: String,
-    /// What shows of the machine at the end.
+    /// What shows of the machine at the end, and of the files that were saved.
     pub(crate) state: String,
     /// How many calls of the store there were.
     pub(crate) calls: u32,
@@ -55,20 +57,22 @@ pub(crate) struct Came {
 
 /// Holds a dialogue with nothing in its way, and compares it with what is written down; its record gives the same.
 pub(crate) fn hold_whole(alloc: Global, talk: &Talk, files: &[StoredFile]) -> Result<Came, Wrong> {
-    let panel = new_panel(alloc, alloc)?;
-    let came = hold(alloc, alloc, panel, (talk, files), CALM)?;
+    let came = hold_first(alloc, talk, files)?;
     let said = text_of(alloc, Vec::from_slice(alloc, came.said.as_slice())?)?;
+    let errors = text_of(alloc, Vec::from_slice(alloc, came.errors.as_slice())?)?;
     let found = notes(
         alloc,
         came.screen.as_slice(),
-        said.as_str(),
-        came.record.as_str(),
+        [said.as_str(), errors.as_str(), came.record.as_str()],
     )?;
     let written = notes(
         alloc,
         talk.screen.as_slice(),
-        talk.said.as_str(),
-        talk.record.as_str(),
+        [
+            talk.said.as_str(),
+            talk.errors.as_str(),
+            talk.record.as_str(),
+        ],
     )?;
     let name = talk.name.as_str();
     same(alloc, name, written.as_str(), found.as_str())?;
@@ -76,10 +80,22 @@ pub(crate) fn hold_whole(alloc: Global, talk: &Talk, files: &[StoredFile]) -> Re
     Ok(came)
 }
 
-/// What the machine typed, what the console said, and what was recorded.
-fn notes(alloc: Global, screen: &[u8], said: &str, record: &str) -> Result<String, Wrong> {
+/// Holds a dialogue with nothing in its way but the size of its heap, where it has one.
+fn hold_first(alloc: Global, talk: &Talk, files: &[StoredFile]) -> Result<Came, Wrong> {
+    if talk.heap == 0 {
+        let panel = new_panel(alloc, alloc)?;
+        return hold(alloc, alloc, panel, (talk, files), CALM);
+    }
+    let heap = LocalHeap::new(alloc, talk.heap as usize)?;
+    let panel = new_panel(alloc, &heap)?;
+    hold(alloc, &heap, panel, (talk, files), CALM)
+}
+
+/// What the machine typed, what was said on the console and of a script that nobody watches, and what was recorded.
+fn notes(alloc: Global, screen: &[u8], texts: [&str; 3]) -> Result<String, Wrong> {
     let typed = line_of_keys(alloc, screen)?;
-    Ok(format!(in alloc; "{typed}\n{said}{record}")?)
+    let [said, errors, record] = texts;
+    Ok(format!(in alloc; "{typed}\n{said}! {errors}: {record}")?)
 }
 
 /// The record, played on a new machine, types the same and leaves the same.
@@ -134,16 +150,20 @@ fn hold_with<L: Ledger, A: Allocator + Copy>(
     trouble: Trouble,
 ) -> Result<Came, Wrong> {
     let mut said = paper(alloc, trouble.said, trouble);
+    let mut errors = paper(alloc, usize::MAX, trouble);
     let station = Station {
         panel,
         store,
         screen: paper(alloc, trouble.screen, trouble),
-        journal: paper(alloc, trouble.record, trouble),
+        journal: Record::new(paper(alloc, trouble.record, trouble)),
     };
     let person = Person {
         keyboard: Keys::new(talk.reads.as_slice(), talk.is_terminal, trouble.read),
         console: &mut said,
-        files: MemoryReasons,
+        errors: &mut errors,
+        host: MemoryHost {
+            newest: talk.newest.as_str(),
+        },
     };
     let Parting {
         station,
@@ -151,23 +171,30 @@ fn hold_with<L: Ledger, A: Allocator + Copy>(
         is_journal_torn,
         is_console_torn,
         has_read_fault,
+        has_refused: _,
+        lacks_script: _,
     } = converse(heap, station, person, &talk.wish());
     let Station {
         mut panel,
         mut store,
         mut screen,
-        mut journal,
+        journal,
     } = station;
     let calls = store.calls();
+    let (is_kept, mut journal) = journal.finish();
+    let record = text_of(alloc, journal.take(alloc))?;
+    let mut state = shown(alloc, heap, &mut panel, &mut store)?;
+    state.push_str(files_shown(alloc, record.as_str(), &store)?.as_str())?;
     Ok(Came {
         screen: screen.take(alloc),
         said: said.take(alloc),
-        record: text_of(alloc, journal.take(alloc))?,
-        state: shown(alloc, heap, &mut panel, &mut store)?,
+        errors: errors.take(alloc),
+        record,
+        state,
         calls,
         faults: [
             is_screen_torn,
-            is_journal_torn,
+            is_journal_torn || !is_kept,
             is_console_torn,
             has_read_fault,
         ],

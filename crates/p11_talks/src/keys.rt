@@ -1,4 +1,4 @@
-use p11_dialogue::{Explain, Keyboard};
+use p11_dialogue::{Host, Keyboard};
 use std::io;
 use std::io::{ErrorKind, Read};
 
@@ -50,16 +50,24 @@ impl Keyboard for Keys<'_> {
     fn pause(&mut self) {}
 }
 
-/// The reasons of a store in memory.
+/// A host whose files are those of a store in memory.
 #[derive(Drop)]
-pub(crate) struct MemoryReasons;
+pub(crate) struct MemoryHost<'a> {
+    /// The name of the file that is newer than all others; none where it is empty.
+    pub(crate) newest: &'a str,
+}
 
-impl Explain for MemoryReasons {
+impl Host for MemoryHost<'_> {
     fn why_not_read(&self, _name: &[u8]) -> &'static str {
-        "there is no such file"
+        "no such file"
     }
 
     fn why_not_written(&self, _name: &[u8]) -> &'static str {
         "it takes no file"
+    }
+
+    fn is_newer(&self, name: &[u8], other: &[u8]) -> bool {
+        let newest = self.newest.as_bytes();
+        name == newest && other != newest
     }
 }

@@ -20,7 +20,7 @@ const LINES: u32 = 8;
 pub(crate) struct Again {
     /// What the machine typed.
     pub(crate) typed: Vec<u8>,
-    /// What shows of the machine at the end.
+    /// What shows of the machine at the end, and of the files that were saved.
     pub(crate) state: String,
 }
 
@@ -43,6 +43,31 @@ pub(crate) fn shown<A: Allocator + Copy, S: Store>(
     store: &mut S,
 ) -> Result<String, Wrong> {
     ask(alloc, heap, panel, store, "regs\ndevice\n")
+}
+
+/// What shows of the files that a record's lines saved: of each its name, and a sum in which each byte has its place.
+pub(crate) fn files_shown<L: Ledger>(
+    alloc: Global,
+    record: &str,
+    shelf: &Shelf<L>,
+) -> Result<String, Wrong> {
+    let mut text = String::new(alloc);
+    for line in record.lines() {
+        let Some((_, name)) = line
+            .strip_prefix("save ")
+            .and_then(|rest| rest.split_once(" "))
+        else {
+            continue;
+        };
+        let bytes = shelf.bytes_under(name.as_bytes()).unwrap_or(&[]);
+        let mut sum = 0u64;
+        for byte in bytes {
+            sum = sum.wrapping_mul(31).wrapping_add(u64::from(*byte));
+        }
+        let len = bytes.len();
+        text.push_str(format!(in alloc; "{name} {len} {sum}\n")?.as_str())?;
+    }
+    Ok(text)
 }
 
 /// Plays the record of a dialogue on a new machine.
@@ -77,6 +102,7 @@ fn play_counted<L: Ledger>(
             return Err(bad_line(alloc, line));
         }
     }
-    let state = shown(alloc, alloc, &mut panel, &mut shelf)?;
+    let mut state = shown(alloc, alloc, &mut panel, &mut shelf)?;
+    state.push_str(files_shown(alloc, came.record.as_str(), &shelf)?.as_str())?;
     Ok(Again { typed, state })
 }

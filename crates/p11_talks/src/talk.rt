@@ -19,8 +19,19 @@ pub(crate) struct Talk {
     pub(crate) screen: Vec<u8>,
     /// What the console says.
     pub(crate) said: String,
+    /// What is said of a script that nobody watches.
+    pub(crate) errors: String,
     /// The lines of the record.
     pub(crate) record: String,
+    /// Whether the script is all, and whether it ends at its first refused line.
+    pub(crate) is_batch: bool,
+    pub(crate) is_strict: bool,
+    /// Whether `save` writes nothing.
+    pub(crate) is_saveless: bool,
+    /// The file that is newer than all others; none where it is empty.
+    pub(crate) newest: String,
+    /// The greatest heap in bytes that a dialogue has; 0: as much as there is.
+    pub(crate) heap: u32,
 }
 
 impl Talk {
@@ -35,8 +46,27 @@ impl Talk {
             reads: Vec::new(alloc),
             screen: Vec::new(alloc),
             said: String::new(alloc),
+            errors: String::new(alloc),
             record: String::new(alloc),
+            is_batch: false,
+            is_strict: false,
+            is_saveless: false,
+            newest: String::new(alloc),
+            heap: 0,
         }
+    }
+
+    /// Takes a word for how it is held; whether there is such a word.
+    pub(crate) fn take_flag(&mut self, word: &str) -> bool {
+        match word {
+            "terminal" => self.is_terminal = true,
+            "talk" => self.is_talk = true,
+            "batch" => self.is_batch = true,
+            "strict" => self.is_strict = true,
+            "no-save" => self.is_saveless = true,
+            _ => return false,
+        }
+        true
     }
 
     /// What is asked for.
@@ -50,6 +80,9 @@ impl Talk {
             script,
             is_talk: self.is_talk,
             slice: self.slice,
+            is_batch: self.is_batch,
+            is_strict: self.is_strict,
+            is_saveless: self.is_saveless,
         }
     }
 }

@@ -13,10 +13,13 @@ use std::mem;
 ///   several such lines with one name each adds its bytes.
 /// - `= NAME` begins a dialogue.
 /// - `% terminal`: a person sits at it. `% talk`: the machine's terminal comes first. `% script NAME`: the lines of a
-///   file are done first. `% slice N`: turns between two looks at the keyboard, else 1,000.
+///   file are done first. `% slice N`: turns between two looks at the keyboard, else 1,000. `% batch`, `% strict`,
+///   `% no-save`: as those options of the program. `% newest NAME`: this file is newer than all others. `% heap N`: memory
+///   has so many bytes, and nothing else is in the way.
 /// - `< KEYS`: what the keyboard gives to a read, in the escapes of `key`; with nothing behind it, nothing.
+/// - `* N KEYS`: the same for so many reads.
 /// - `> BYTES`: what the machine types, in the same escapes.
-/// - `? TEXT`: a line that the console says.
+/// - `? TEXT`: a line that the console says. `! TEXT`: a line that is said of a script that nobody watches.
 /// - `: LINE`: a line of the record.
 #[derive(Drop)]
 pub(crate) struct Talks {
@@ -54,6 +57,8 @@ impl Talks {
             Some('=') => self.begin(alloc, rest)?,
             Some('%') => self.take_way(alloc, rest)?,
             Some('<') => self.talk.reads.push(bytes_of(alloc, rest)?)?,
+            Some('*') => self.take_reads(alloc, rest)?,
+            Some('!') => push_line(&mut self.talk.errors, rest)?,
             Some('>') => {
                 let bytes = bytes_of(alloc, rest)?;
                 self.talk.screen.extend_from_slice(bytes.as_slice())?;
@@ -71,7 +76,9 @@ impl Talks {
             return Ok(());
         }
         let whole = hold_whole(alloc, &self.talk, self.files.as_slice())?;
-        break_all(alloc, &self.talk, self.files.as_slice(), &whole)?;
+        if self.talk.heap == 0 {
+            break_all(alloc, &self.talk, self.files.as_slice(), &whole)?;
+        }
         self.count = self.count.saturating_add(1);
         Ok(())
     }
@@ -96,17 +103,28 @@ impl Talks {
         Ok(())
     }
 
+    /// Takes a read that comes so many times.
+    fn take_reads(&mut self, alloc: Global, text: &str) -> Result<(), Wrong> {
+        let Some((times, keys)) = text.split_once(" ") else {
+            return Err(bad_line(alloc, text));
+        };
+        for _ in 0..number(alloc, times)? {
+            self.talk.reads.push(bytes_of(alloc, keys)?)?;
+        }
+        Ok(())
+    }
+
     /// Takes how the dialogue is held.
     fn take_way(&mut self, alloc: Global, text: &str) -> Result<(), Wrong> {
         if let Some(name) = text.strip_prefix("script ") {
             self.talk.script = String::from_str(alloc, name)?;
         } else if let Some(turns) = text.strip_prefix("slice ") {
             self.talk.slice = number(alloc, turns)?;
-        } else if text == "terminal" {
-            self.talk.is_terminal = true;
-        } else if text == "talk" {
-            self.talk.is_talk = true;
-        } else {
+        } else if let Some(name) = text.strip_prefix("newest ") {
+            self.talk.newest = String::from_str(alloc, name)?;
+        } else if let Some(bytes) = text.strip_prefix("heap ") {
+            self.talk.heap = number(alloc, bytes)?;
+        } else if !self.talk.take_flag(text) {
             return Err(bad_line(alloc, text));
         }
         Ok(())

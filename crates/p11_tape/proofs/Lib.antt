@@ -1,3 +1,4 @@
+-- Lemmas on tapes: zeros, blocks and readings.
 mod ZeroLemmas
 mod BlockLemmas
 mod ReadLemmas

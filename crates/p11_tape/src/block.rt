@@ -29,7 +29,7 @@ fn fault_at(kind: TapeFaultKind, at: usize) -> TapeFault
     TapeFault { kind, at }
 }
 
-/// What follows the zeros at the front.
+/// What follows the zeros at the front of a tape's bytes.
 #[tactic(auto, using(crate::proofs::ZeroLemmas::behind_none, crate::proofs::ZeroLemmas::behind_one_more))]
 pub fn after_zeros(bytes: &[u8]) -> &[u8]
     ensures shorter { length result.now ≤ length bytes.now }

@@ -18,21 +18,21 @@ impl<A: Allocator> Model for TapeBytes<A> {
 }
 
 impl<A: Allocator> TapeBytes<A> {
-    /// The pairs of a list.
+    /// The pairs of a list, each a byte with its address. It takes no memory.
     pub fn from_vec(items: Vec<(u16, u8), A>) -> Self
         ensures { result ≡ items.items }
     {
         TapeBytes { items }
     }
 
-    /// The pairs, to look at.
+    /// The pairs, each a byte with its address, to look at.
     pub fn as_slice(&self) -> &[(u16, u8)]
         ensures { result.now ≡ self.now }
     {
         self.items.as_slice()
     }
 
-    /// The pairs as a list of their own.
+    /// The pairs as a list of their own. It takes no memory.
     pub fn into_vec(self) -> Vec<(u16, u8), A>
         ensures { result.items ≡ self }
     {

@@ -9,7 +9,7 @@ use crate::bytes::TapeBytes;
 use crate::fault::{TapeFault, TapeFaultKind};
 use std::alloc::{AllocError, Allocator, Global};
 
-/// What a tape means.
+/// What a tape means: the bytes that it loads, and where it starts.
 #[derive(Drop)]
 pub struct Tape<A: Allocator = Global> {
     /// Its data bytes, each with its address, in tape order. A later byte for the same address comes later.

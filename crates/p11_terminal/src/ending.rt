@@ -32,6 +32,8 @@ pub(crate) enum Cause {
     Torn(Torn),
     /// The input can't be read.
     Reading,
+    /// The script can't be had, or a line of it was refused where none was to be. Why was said already.
+    Script,
 }
 
 /// The exit status, and what is said: of help on standard output, and else on standard error.
@@ -49,5 +51,6 @@ pub(crate) fn ending(cause: &Cause) -> (u8, &str) {
         Cause::Torn(Torn::Record) => (1, "terminal: the record can't be written\n"),
         Cause::Torn(Torn::Screen) => (1, "terminal: write fault\n"),
         Cause::Reading => (1, "terminal: read fault\n"),
+        Cause::Script => (1, ""),
     }
 }

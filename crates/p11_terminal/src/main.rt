@@ -1,7 +1,7 @@
 //! The program `terminal`: a PDP-11/40 for a person, who sits at its console and at its terminal.
 //!
-//! `terminal [--memory K] [--lines N] [--slice S] [--record FILE] [--talk] [SCRIPT]` does the lines of the script, and
-//! then those that come on standard input. What is done can be recorded as a script for `p11`.
+//! `terminal [OPTION ..] [SCRIPT]` does the lines of the script, and then those that come on standard input; with `--batch`
+//! those of the script alone. What is done can be recorded as a script for `p11`.
 #![tactic(auto)]
 
 ghost use Rattle.std.specs.Prelude.{◌≡◌, ◌<◌};
@@ -12,10 +12,11 @@ mod system;
 
 use crate::ending::{Cause, Torn, ending};
 use crate::settings::{Launch, settings};
-use crate::system::{RecordFile, SystemKeyboard, SystemReasons};
-use p11_dialogue::{Person, Station, Wish, converse};
+use crate::system::{Output, RecordFile, SystemHost, SystemKeyboard};
+use p11_dialogue::{Parting, Person, Record, Station, Wish, converse};
 use p11_files::FileStore;
 use p11_panel::Panel;
+use std::alloc::Allocator;
 use std::fs::OpenOptions;
 use std::io::ErrorKind;
 use std::marker::Brand;
@@ -87,32 +88,53 @@ fn hold<L: Ledger>(rt: &HostRuntime, launch: &Launch<'_>, blank: Blank) -> Resul
     let Ok(panel) = Panel::new(rt.alloc(), launch.config) else {
         return Err(Cause::NoMemory);
     };
-    let journal = record(rt, launch)?;
+    let journal = Record::new(record(rt, launch)?);
+    let screen = if launch.is_batch {
+        Output::Nothing
+    } else {
+        Output::Standard(rt.stdout())
+    };
     let station = Station {
         panel,
         store: FileStore::<L>::new(rt, blank),
-        screen: io::writer(rt),
+        screen,
         journal,
     };
     let person = Person {
         keyboard: SystemKeyboard::new(rt),
-        console: io::writer(rt),
-        files: SystemReasons::new(rt),
+        console: Output::Standard(rt.stdout()),
+        errors: Output::Errors(rt.stderr()),
+        host: SystemHost::new(rt),
     };
     let wish = Wish {
         script: launch.script.map(|name| name.as_bytes()),
         is_talk: launch.is_talk,
         slice: launch.slice,
+        is_batch: launch.is_batch,
+        is_strict: launch.is_strict,
+        is_saveless: launch.is_saveless,
     };
-    let parting = converse(rt.alloc(), station, person, &wish);
-    if parting.is_journal_torn {
-        return Ok(Cause::Torn(Torn::Record));
+    Ok(cause_of(converse(rt.alloc(), station, person, &wish), launch))
+}
+
+/// How the program ends, by what is left of the dialogue.
+fn cause_of<A: Allocator, S: Drop>(
+    parting: Parting<A, S, Output, Record<RecordFile>>,
+    launch: &Launch<'_>,
+) -> Cause {
+    let (is_kept, _) = parting.station.journal.finish();
+    if parting.is_journal_torn || !is_kept {
+        return Cause::Torn(Torn::Record);
     }
     if parting.is_screen_torn || parting.is_console_torn {
-        return Ok(Cause::Torn(Torn::Screen));
+        return Cause::Torn(Torn::Screen);
     }
     if parting.has_read_fault {
-        return Ok(Cause::Reading);
+        return Cause::Reading;
     }
-    Ok(Cause::Done)
+    let is_failed = parting.lacks_script || launch.is_strict && parting.has_refused;
+    if launch.is_batch && is_failed {
+        return Cause::Script;
+    }
+    Cause::Done
 }

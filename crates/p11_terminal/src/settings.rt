@@ -16,11 +16,17 @@ pub(crate) struct Launch<'a> {
     pub(crate) record: Option<&'a str>,
     /// Whether the machine's terminal comes behind the script.
     pub(crate) is_talk: bool,
+    /// Whether the script is all.
+    pub(crate) is_batch: bool,
+    /// Whether the script ends at its first refused line.
+    pub(crate) is_strict: bool,
+    /// Whether `save` writes nothing.
+    pub(crate) is_saveless: bool,
     pub(crate) script: Option<&'a str>,
 }
 
 /// The version that `--version` shows.
-const VERSION: &str = "0.1.0";
+const VERSION: &str = "1.0.0";
 
 const MEMORY: u32 = 28;
 
@@ -44,6 +50,14 @@ fn option<'a>(alloc: Global, name: &'a str, value: &'a str, help: &'a str) -> Ar
         .help(help)
 }
 
+/// An option without a value.
+fn flag<'a>(alloc: Global, name: &'a str, help: &'a str) -> Arg<'a> {
+    Arg::new(alloc, name)
+        .long(name)
+        .action(ArgAction::SetTrue)
+        .help(help)
+}
+
 /// The program, without its arguments.
 fn program<'a>(alloc: Global) -> Command<'a> {
     Command::new(alloc, "terminal").version(VERSION).about(
@@ -55,6 +69,10 @@ fn program<'a>(alloc: Global) -> Command<'a> {
 fn command<'a>(alloc: Global) -> Result<Command<'a>, AllocError> {
     let memory = "Thousands of words of memory: 4 to 124 in steps of 4 [default: 28]";
     let lines = "Decoded words to keep: 0 to 4096 [default: 1024]";
+    let save = "Answer each save, and write nothing; the end says what it would have been";
+    let batch = "Do the script alone, answer as p11, and say on standard error what is refused";
+    let strict = "With --batch: end at the first refused line, with status 1";
+    let talk = "Sit at the machine's terminal at once";
     let slice = "Turns between two looks at the keyboard [default: 1000000]";
     program(alloc)
         .arg(option(alloc, "memory", "K", memory))?
@@ -66,12 +84,10 @@ fn command<'a>(alloc: Global) -> Result<Command<'a>, AllocError> {
                 .value_name("FILE")
                 .help("A new file for the lines of what is done, which p11 plays again"),
         )?
-        .arg(
-            Arg::new(alloc, "talk")
-                .long("talk")
-                .action(ArgAction::SetTrue)
-                .help("Sit at the machine's terminal at once"),
-        )?
+        .arg(flag(alloc, "no-save", save))?
+        .arg(flag(alloc, "batch", batch).requires_arg("SCRIPT")?)?
+        .arg(flag(alloc, "strict", strict).requires_arg("batch")?)?
+        .arg(flag(alloc, "talk", talk).conflicts_with("batch")?)?
         .arg(Arg::new(alloc, "SCRIPT").help("Lines for the console that are done first"))
 }
 
@@ -125,6 +141,9 @@ pub(crate) fn settings<'a>(alloc: Global, words: &'a [String]) -> Result<Launch<
         slice,
         record: matches.get_str("record"),
         is_talk: matches.get_flag("talk"),
+        is_batch: matches.get_flag("batch"),
+        is_strict: matches.get_flag("strict"),
+        is_saveless: matches.get_flag("no-save"),
         script: matches.get_str("SCRIPT"),
     })
 }

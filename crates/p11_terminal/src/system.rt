@@ -1,8 +1,8 @@
-// What the system gives: its keyboard, the reasons of its faults with files, and the record's file.
-use p11_dialogue::{Explain, Keyboard};
+// What the system gives: its keyboard, its files and what it says of them, and its writers.
+use p11_dialogue::{Host, Keyboard};
 use std::fs::File;
-use std::io::{ErrorKind, IsTerminal, Read, Stdin, Write};
-use std::time::Duration;
+use std::io::{ErrorKind, IsTerminal, Read, Stderr, Stdin, Stdout, Write};
+use std::time::{Duration, SystemTime};
 use std::{fs, io, thread};
 
 /// How many milliseconds it waits where there is nothing to do.
@@ -44,19 +44,19 @@ impl Keyboard for SystemKeyboard<'_> {
     }
 }
 
-/// What the system says of files.
+/// The host's files.
 #[derive(Drop)]
-pub(crate) struct SystemReasons<'a> {
+pub(crate) struct SystemHost<'a> {
     rt: &'a HostRuntime,
 }
 
-impl<'a> SystemReasons<'a> {
+impl<'a> SystemHost<'a> {
     pub(crate) fn new(rt: &'a HostRuntime) -> Self {
-        SystemReasons { rt }
+        SystemHost { rt }
     }
 }
 
-impl Explain for SystemReasons<'_> {
+impl Host for SystemHost<'_> {
     fn why_not_read(&self, name: &[u8]) -> &'static str {
         let Ok(path) = str::from_utf8(name) else {
             return "its name is no UTF-8";
@@ -84,13 +84,26 @@ impl Explain for SystemReasons<'_> {
             Err(error) => reason(&error),
         }
     }
+
+    fn is_newer(&self, name: &[u8], other: &[u8]) -> bool {
+        match (written(self.rt, name), written(self.rt, other)) {
+            (Some(time), Some(than)) => time > than,
+            _ => false,
+        }
+    }
+}
+
+/// When a file was last written.
+fn written(rt: &HostRuntime, name: &[u8]) -> Option<SystemTime> {
+    let path = str::from_utf8(name).ok()?;
+    fs::metadata(rt, path).ok()?.modified().ok()
 }
 
 /// What the system says of a file.
 fn reason(error: &io::Error) -> &'static str {
     match error.kind() {
-        ErrorKind::NotFound => "there is no such file",
-        ErrorKind::PermissionDenied => "it may not be read",
+        ErrorKind::NotFound => "no such file",
+        ErrorKind::PermissionDenied => "permission denied",
         ErrorKind::IsADirectory => "it is a folder",
         ErrorKind::NotADirectory => "what should be its folder is none",
         ErrorKind::FilesystemLoop => "its links lead in a ring",
@@ -118,5 +131,27 @@ impl Write for RecordFile {
             RecordFile::None => Ok(()),
             RecordFile::File(file) => file.flush(),
         }
+    }
+}
+
+/// Standard output, standard error, or nothing.
+#[derive(Drop)]
+pub(crate) enum Output {
+    Standard(Stdout),
+    Errors(Stderr),
+    Nothing,
+}
+
+impl Write for Output {
+    fn write(&mut self, buf: &[u8]) -> io::Result<usize> {
+        match self {
+            Output::Standard(output) => output.write(buf),
+            Output::Errors(output) => output.write(buf),
+            Output::Nothing => Ok(buf.len()),
+        }
+    }
+
+    fn flush(&mut self) -> io::Result<()> {
+        Ok(())
     }
 }

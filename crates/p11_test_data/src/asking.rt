@@ -1,3 +1,4 @@
+//! Runs a script on a machine and gives the text that it answers.
 use crate::wrong::{Wrong, bad_line};
 use p11_panel::{Panel, StdReader, StdWriter, Store, session};
 use std::alloc::{Allocator, Global};

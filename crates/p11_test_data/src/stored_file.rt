@@ -1,3 +1,4 @@
+//! Files and numbers as a file of data writes them.
 ghost use Rattle.std.specs.Prelude.{◌≡◌, IfOk};
 
 use crate::wrong::{Wrong, bad_line};
@@ -30,7 +31,7 @@ impl StoredFile {
         Ok(StoredFile { name, bytes })
     }
 
-    /// The same file once more.
+    /// A second file with this name and these bytes; the only error is want of memory.
     pub fn copy(&self, alloc: Global) -> Result<StoredFile, AllocError>
         ensures name { IfOk result (λ file. file.name.items ≡ self.now.name.items) }
         ensures bytes { IfOk result (λ file. file.bytes.items ≡ self.now.bytes.items) }

@@ -1,3 +1,4 @@
+//! Why a file of data isn't met: unreadable, or another answer than the one that is written.
 ghost use Rattle.std.specs.Prelude.{◌≡◌, IsOk};
 
 use std::alloc::{AllocError, AllocFailed, Global};

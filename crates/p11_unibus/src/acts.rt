@@ -23,6 +23,9 @@ impl<A: Allocator> Unibus<A> {
         ensures visible { self.new.visible ≡ self.old.visible }
         ensures ok { OnOk result (IsPreparedFor turn self.new.visible self.new.prepared) }
         ensures needless { needs_memory turn self.old.visible ≡ false → IsOk result }
+        ensures again { IsPreparedFor turn self.old.visible self.old.prepared → IsOk result }
+        ensures others { disks.KeepsPrepared (disk_view self.old.visible self.old.prepared)
+            (disk_view self.new.visible self.new.prepared) }
         ensures written { self.new.written ≡ self.old.written }
     {
         if self.rests_but_clock(turn) {
@@ -38,6 +41,9 @@ impl<A: Allocator> Unibus<A> {
         ensures visible { self.new.visible ≡ self.old.visible }
         ensures ok { OnOk result (IsPreparedFor turn self.new.visible self.new.prepared) }
         ensures needless { needs_memory turn self.old.visible ≡ false → IsOk result }
+        ensures again { IsPreparedFor turn self.old.visible self.old.prepared → IsOk result }
+        ensures others { disks.KeepsPrepared (disk_view self.old.visible self.old.prepared)
+            (disk_view self.new.visible self.new.prepared) }
         ensures written { self.new.written ≡ self.old.written }
     {
         let devices = &mut *self.devices;

@@ -64,7 +64,7 @@ impl Device for Kw11 {
     #[tactic(auto, unfolding(p11_kw11::specs::LineClock::register_at, crate::specs::Written::is_listed))]
     fn answers_its_own() {}
 
-    #[tactic(auto, unfolding(p11_kw11::specs::LineClock::clock_after_turn, p11_kw11::specs::LineClock::is_due))]
+    #[tactic(auto, unfolding(p11_kw11::specs::LineClock::clock_after_turn, p11_words::specs::DueTurns::is_due))]
     fn is_due_later() {}
 
     #[tactic(auto, unfolding(p11_kw11::specs::LineClock::clock_after_init))]

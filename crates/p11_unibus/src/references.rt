@@ -26,6 +26,7 @@ impl<A: Allocator> Unibus<A> {
         ensures outcome { read_word_of turn address self.old.visible ≡ (self.new.visible, result) }
         ensures memory { self.new.visible.memory ≡ self.old.visible.memory }
         ensures written { self.new.written ≡ self.old.written }
+        ensures prepared { self.new.prepared ≡ self.old.prepared }
     {
         match self.read(turn, address) {
             Some(word) => Ok(word),
@@ -40,6 +41,7 @@ impl<A: Allocator> Unibus<A> {
         requires room { length self.old.written < 272 }
         ensures outcome { write_word_of turn address word self.old.visible ≡ (self.new.visible, result) }
         ensures written { self.new.written ≡ noted address self.old }
+        ensures prepared { self.new.prepared ≡ self.old.prepared }
     {
         if self.write(turn, address, word) {
             Ok(())
@@ -55,6 +57,7 @@ impl<A: Allocator> Unibus<A> {
         ensures outcome { read_byte_of turn address self.old.visible ≡ (self.new.visible, result) }
         ensures memory { self.new.visible.memory ≡ self.old.visible.memory }
         ensures written { self.new.written ≡ self.old.written }
+        ensures prepared { self.new.prepared ≡ self.old.prepared }
     {
         match self.read_word(turn, even_address(address)) {
             Ok(word) => Ok(byte_of(address, word)),
@@ -70,6 +73,7 @@ impl<A: Allocator> Unibus<A> {
         requires room { length self.old.written < 272 }
         ensures outcome { write_byte_of turn address byte self.old.visible ≡ (self.new.visible, result) }
         ensures written { self.new.written ≡ noted_byte address self.old }
+        ensures prepared { self.new.prepared ≡ self.old.prepared }
     {
         if is_transmitter_high_byte(address) {
             return Ok(());

@@ -67,6 +67,7 @@ impl<A: Allocator> Unibus<A> {
         ensures state { self.new.visible ≡ bus_after_service source self.old.visible }
         ensures memory { self.new.visible.memory ≡ self.old.visible.memory }
         ensures written { self.new.written ≡ self.old.written }
+        ensures prepared { self.new.prepared ≡ self.old.prepared }
     {
         let devices = &mut *self.devices;
         match source {
@@ -85,6 +86,7 @@ impl<A: Allocator> Unibus<A> {
         ensures outcome { grant_of priority self.old.visible ≡ (self.new.visible, result) }
         ensures memory { self.new.visible.memory ≡ self.old.visible.memory }
         ensures written { self.new.written ≡ self.old.written }
+        ensures prepared { self.new.prepared ≡ self.old.prepared }
     {
         if self.is_quiet() {
             return None;
@@ -99,6 +101,7 @@ impl<A: Allocator> Unibus<A> {
         ensures outcome { grant_of priority self.old.visible ≡ (self.new.visible, result) }
         ensures memory { self.new.visible.memory ≡ self.old.visible.memory }
         ensures written { self.new.written ≡ self.old.written }
+        ensures prepared { self.new.prepared ≡ self.old.prepared }
     {
         let source = self.highest_request(priority)?;
         self.acknowledge(source);

@@ -47,6 +47,7 @@ impl<A: Allocator> Typed<A> {
         ensures bytes { self.new.bytes ≡ self.old.bytes }
         ensures ok { OnOk result (needed ≡ true → 0 < self.new.room) }
         ensures needless { needed ≡ false → IsOk result }
+        ensures again { 0 < self.old.room → IsOk result }
     {
         if needed {
             self.bytes.reserve(1)

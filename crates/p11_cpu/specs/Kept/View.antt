@@ -1,8 +1,8 @@
 -- What contracts see of a machine.
-use Rattle.std.specs.Prelude.{ℕ, Option}
+use Rattle.p11_unibus.specs.Kept.View.{Prepared}
 use Rattle.p11_cpu.specs.State.{State}
 
--- what contracts see of a machine: its state, and beside it the turn, if there is one, for which it is prepared
+-- what contracts see of a machine: its state, and beside it the memory that was found for the acts of its devices
 pub record MachineView : Type 0 where
   pub visible : State
-  pub ready : Option ℕ
+  pub prepared : Prepared

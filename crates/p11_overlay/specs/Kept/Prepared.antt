@@ -1,7 +1,8 @@
 -- What contracts see of a drive, and the sectors that are prepared on it.
 use Rattle.std.specs.List.{list_any, IsDistinct}
 use Rattle.std.specs.Prelude.{ℕ, List, IsTrue, nat_eq, ◌≡◌, ◌<◌, length, All}
-use Rattle.p11_overlay.specs.Drive.{Contents, all_sectors, sector_bytes}
+use Rattle.p11_overlay.specs.Drive.{Contents}
+use Rattle.p11_overlay.specs.Geometry.{all_sectors, sector_bytes}
 
 -- The contents, and the numbers of the sectors that may be written without taking memory.
 -- The order of these means nothing: see `IsPrepared`.

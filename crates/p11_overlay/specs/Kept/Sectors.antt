@@ -3,7 +3,8 @@
 use Rattle.std.specs.Prelude.{◌≡◌, ℕ, ◌<◌, ◌≤◌, Bool, true, false, nat_eq, is_some, List, length, map, take, replicate, slice_index_or, All, Option, Some, None}
 use Rattle.std.specs.Int.{div_ceil}
 use Rattle.std.specs.List.{list_any, range_with_len, IsDistinct}
-use Rattle.p11_overlay.specs.Drive.{Contents, all_sectors, sector_bytes, sectors_of}
+use Rattle.p11_overlay.specs.Drive.{Contents, sectors_of}
+use Rattle.p11_overlay.specs.Geometry.{all_sectors, sector_bytes}
 
 -- the sectors on which an image has bytes
 unfoldable pub base_of : List ℕ → List (List ℕ)

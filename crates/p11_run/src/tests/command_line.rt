@@ -1,11 +1,12 @@
 // What the program answers to command lines, and how it ends.
 use crate::ending::{Cause, ending, ending_after};
+use crate::finish::finish;
 use crate::run_script;
 use crate::settings::settings;
 use p11_panel::SessionFault;
 use std::alloc::{AllocError, Global};
-use std::fs;
 use std::test::Fail;
+use std::{fs, io};
 
 /// Command lines that are taken, thousands of words of memory, the number of decoded words, and the script.
 static TAKEN: [(&str, u32, u32, &str); 5] = [
@@ -58,8 +59,8 @@ static ENDED: [(&str, u8, &str); 14] = [
         0,
         "A PDP-11/40 under an operator's script\n\nUsage: p11 [OPTIONS] <SCRIPT>\n",
     ),
-    ("--version", 0, "p11 0.1.0\n"),
-    ("-V", 0, "p11 0.1.0\n"),
+    ("--version", 0, "p11 1.0.0\n"),
+    ("-V", 0, "p11 1.0.0\n"),
 ];
 
 /// The words of a command line, the program's name first.
@@ -127,6 +128,38 @@ fn help_that_cannot_be_said_is_a_write_fault(rt: HostRuntime) -> Result<(), Fail
     let help = Cause::Help(String::from_str(rt.alloc(), "help\n")?);
     assert_eq!(rt; ending_after(&help, true), (0, ""));
     assert_eq!(rt; ending_after(&help, false), (1, "p11: write fault\n"));
+    Ok(())
+}
+
+/// How the program ends on a standard output that has room for so many bytes: its status, and what it says on both.
+fn finished(alloc: Global, cause: &Cause, room: usize) -> io::Result<(u8, Vec<u8>, Vec<u8>)> {
+    let mut space = vec![in alloc; 0u8; room]?;
+    let mut errors = Vec::new(alloc);
+    let (status, left) = {
+        let mut output = space.as_mut_slice();
+        let status = finish(&mut output, &mut errors, cause);
+        (status, output.len())
+    };
+    space.truncate(room.saturating_sub(left));
+    Ok((status, space, errors))
+}
+
+#[test]
+fn help_ends_with_0_only_where_all_of_it_is_written(rt: HostRuntime) -> Result<(), Fail> {
+    let help = Cause::Help(String::from_str(rt.alloc(), "help\n")?);
+    for room in 0..6usize {
+        let (status, output, errors) = finished(rt.alloc(), &help, room)?;
+        assert!(rt; output.as_slice() == &b"help\n"[..room.min(5)], "{room}");
+        let told = if room < 5 {
+            (1, b"p11: write fault\n".as_slice())
+        } else {
+            (0, b"".as_slice())
+        };
+        assert!(rt; (status, errors.as_slice()) == told, "{room}");
+    }
+    let (status, output, errors) = finished(rt.alloc(), &Cause::BadSize, 0)?;
+    assert!(rt; (status, output.len()) == (2, 0));
+    assert!(rt; errors.as_slice() == b"? 15 BadSize\n".as_slice());
     Ok(())
 }
 

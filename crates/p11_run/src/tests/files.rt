@@ -124,9 +124,40 @@ fn try_names<L: Ledger>(abort: &impl Abort, rt: &HostRuntime, blank: Blank) -> R
     Ok(())
 }
 
+/// Lengths of files, about the sizes of a read and of a disk's block.
+static LENGTHS: [usize; 6] = [1, 4095, 4096, 4097, 8191, 12287];
+
+fn try_lengths<L: Ledger>(abort: &impl Abort, rt: &HostRuntime, blank: Blank) -> Result<(), Fail>
+    requires name { blank.name ≡ L.name }
+    requires parts { blank.parts ≡ L.parts }
+    requires some { 0 < blank.parts }
+{
+    let _ = fs::remove_dir_all(rt, "p11_lengths");
+    fs::create_dir(rt, "p11_lengths")?;
+    let store = &mut FileStore::<L>::new(rt, blank);
+    for &length in &LENGTHS {
+        let mut bytes = Vec::new(rt.alloc());
+        for number in 0..length {
+            bytes.push((number % 251) as u8)?;
+        }
+        assert!(abort; store.put(b"p11_lengths/a", bytes.as_slice()).is_ok());
+        assert!(abort;
+            has(rt, store, b"p11_lengths/a", bytes.as_slice()),
+            "{length} bytes, all of them"
+        );
+    }
+    fs::remove_dir_all(rt, "p11_lengths")?;
+    Ok(())
+}
+
 #[test]
 fn files_are_fetched_and_put(rt: HostRuntime) -> Result<(), Fail> {
     try_files::<Brand>(&rt, &rt, Blank::new(1))
+}
+
+#[test]
+fn a_file_has_all_the_bytes_that_were_put(rt: HostRuntime) -> Result<(), Fail> {
+    try_lengths::<Brand>(&rt, &rt, Blank::new(1))
 }
 
 #[test]

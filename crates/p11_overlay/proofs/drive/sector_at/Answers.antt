@@ -1,6 +1,6 @@
 use Rattle.std.proofs.Common.{arith, ℕ, ◌∙◌, ◌≡◌, ◌-◌, ◌*◌, length, min, ap}
 use Rattle.std.proofs.lemmas.List.{length-drop, take_rest}
-use Rattle.p11_overlay.specs.Drive.{image_bytes}
+use Rattle.p11_overlay.specs.Geometry.{image_bytes}
 use Rattle.p11_overlay.specs.Drive.{filled}
 use Rattle.p11_overlay.proofs.Sectors.{cut_and_zeros}
 use Rattle.p11_overlay.proofs.drive.sector_at.Goals as goal

@@ -1,5 +1,5 @@
 use Rattle.std.proofs.Common.{◌∙◌, sym, ap}
-use Rattle.p11_rk11.specs.Registers.{is_due}
+use Rattle.p11_words.specs.DueTurns.{is_due}
 use Rattle.p11_rk11.proofs.Turns.{seek_not_due}
 use Rattle.p11_rk11.proofs.controller.Rk11.finish_seek.Goals as goal
 

@@ -1,6 +1,6 @@
 use Rattle.std.proofs.Common.{◌≡◌, ℕ, Option, true, sym, subst, ◌∙◌}
 use Rattle.p11_rk11.specs.Laws.Registers.{TransferHasPlace}
-use Rattle.p11_rk11.specs.Registers.{is_due}
+use Rattle.p11_words.specs.DueTurns.{is_due}
 use Rattle.p11_rk11.specs.Kept.View.{Rk11View}
 use Rattle.p11_rk11.proofs.Reachable.{due_runs}
 use Rattle.p11_rk11.proofs.controller.Rk11.writes_in.Goals as goal

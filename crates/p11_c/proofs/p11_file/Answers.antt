@@ -1,0 +1,18 @@
+use Rattle.std.proofs.Common.{◌∙◌, refl, subst, to_z-of_z, w32}
+use Rattle.p11_c.specs.Calls.{lent}
+use Rattle.p11_c.specs.Held.{Kept}
+use Rattle.p11_c.specs.HeldCalls.{HandsFile}
+use Rattle.p11_c.proofs.HeldLemmas.{on_none, on_some}
+use Rattle.p11_c.proofs.p11_file.Goals as goal
+
+pub returns-in_default : goal.returns-in_default
+returns-in_default c =
+    on_none _ _ c.args.handle.now.slot.held c.take.new.self.slot.held _ c.in_default.ensures.taken
+    (to_z-of_z {w = w32} {z = c.number.result} (record { sfits = c.number.type_inv }) ∙ c.number.ensures) c.take.ensures.none refl
+
+pub returns : goal.returns
+returns c =
+    let P : Kept → Type 0 = λ k. HandsFile c.hand_file-status.result k.files c.args.name.now (lent c.args.bytes.now c.args.bytes_length.now) (lent c.hand_file-status.new.out c.hand_file-status.new.out_length) in
+    on_some _ _ c.args.handle.now.slot.held c.put.new.self.slot.held _ c.in-Some.desk.value c.in-Some.desk.value c.hand_file-status.result c.in-Some.ensures.taken
+    (to_z-of_z {w = w32} {z = c.number-2.result} (record { sfits = c.number-2.type_inv }) ∙ c.number-2.ensures) c.put.ensures
+    (refl, subst P c.deref.ensures c.hand_file-status.ensures)

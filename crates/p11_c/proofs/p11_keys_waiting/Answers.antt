@@ -1,0 +1,17 @@
+use Rattle.std.proofs.Common.{◌∙◌, refl, ap, to_z-of_z, w32}
+use Rattle.p11_cpu.specs.OperatorDevices.{machine_devices_of}
+use Rattle.p11_c.specs.Held.{Kept}
+use Rattle.p11_c.specs.declared.status.Status.TheVariants.{Done}
+use Rattle.p11_c.proofs.HeldLemmas.{on_none, on_some}
+use Rattle.p11_c.proofs.p11_keys_waiting.Goals as goal
+
+pub returns-in_default : goal.returns-in_default
+returns-in_default c =
+    on_none _ _ c.args.handle.now.slot.held c.take.new.self.slot.held _ c.in_default.ensures.taken
+    (to_z-of_z {w = w32} {z = c.number.result} (record { sfits = c.number.type_inv }) ∙ c.number.ensures) c.take.ensures.none refl
+
+pub returns : goal.returns
+returns c =
+    on_some _ _ c.args.handle.now.slot.held c.put.new.self.slot.held _ c.in-Some.desk.value c.keys_waiting.new.self Done c.in-Some.ensures.taken
+    (to_z-of_z {w = w32} {z = c.number-2.result} (record { sfits = c.number-2.type_inv }) ∙ c.number-2.ensures) c.put.ensures
+    (refl, c.keys_waiting.ensures.state ∙ c.deref_mut.ensures.value, c.keys_waiting.ensures.value ∙ ap (λ (k : Kept). (machine_devices_of k.machine).keys) c.deref_mut.ensures.value)

@@ -1,0 +1,17 @@
+use Rattle.std.proofs.Common.{Global, ◌∙◌, refl, ltb, subst, to_z-of_z, w32}
+use Rattle.p11_c.specs.Held.{Kept}
+use Rattle.p11_c.specs.HeldRuns.{RunEnds}
+use Rattle.p11_c.proofs.HeldLemmas.{on_none, on_some}
+use Rattle.p11_c.proofs.p11_run.Goals as goal
+
+pub returns-in_default : goal.returns-in_default
+returns-in_default c =
+    on_none _ _ c.args.handle.now.slot.held c.take.new.self.slot.held _ c.in_default.ensures.taken
+    (to_z-of_z {w = w32} {z = c.number.result} (record { sfits = c.number.type_inv }) ∙ c.number.ensures) c.take.ensures.none refl
+
+pub returns : goal.returns
+returns c =
+    let From : Kept → Type 0 = λ k. RunEnds Global (ltb 0 c.args.until_idle) c.args.turns c.run-status.result k c.args.run.now c.run-status.new.self c.run-status.new.told in
+    on_some _ _ c.args.handle.now.slot.held c.put.new.self.slot.held _ c.in-Some.desk.value c.run-status.new.self c.run-status.result c.in-Some.ensures.taken
+    (to_z-of_z {w = w32} {z = c.number-2.result} (record { sfits = c.number-2.type_inv }) ∙ c.number-2.ensures) c.put.ensures
+    (subst From c.deref_mut.ensures.value c.run-status.ensures)

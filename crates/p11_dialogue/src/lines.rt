@@ -1,0 +1,179 @@
+// A line of the console's language, that a person types or a script has.
+use crate::desk::Opening;
+use crate::host::Host;
+use crate::keyboard::{Keyboard, Press};
+use crate::reasons::{say_at, say_reason, say_refusal_at};
+use crate::seat::Seat;
+use crate::tapes::TapeNote;
+use crate::unsaved::{Change, change_of};
+use p11_panel::{Answer, Fault, Line, Store, parse_line};
+use std::alloc::Allocator;
+use std::io::Write;
+
+/// The line of a script: the script's name, and the number of the line, from 1 on.
+#[derive(Clone, Copy)]
+pub(crate) struct Place<'a> {
+    pub(crate) script: &'a [u8],
+    pub(crate) number: u64,
+}
+
+/// Where a line comes from.
+#[derive(Clone, Copy)]
+pub(crate) enum Origin<'a> {
+    /// It was typed.
+    Typed,
+    Script(Place<'a>),
+}
+
+/// What becomes of a `save`.
+#[derive(Clone, Copy)]
+enum Saving {
+    /// It writes.
+    Writes,
+    /// It is answered, and writes nothing.
+    Nothing,
+    /// A person has said no.
+    Refused,
+}
+
+impl<
+    A: Allocator + Copy,
+    S: Store,
+    T: Write,
+    L: Write,
+    O: Opening,
+    K: Keyboard + Drop,
+    W: Write + Drop,
+    E: Host + Drop,
+> Seat<A, S, T, L, O, K, W, E> {
+    /// Says why a line is refused.
+    pub(crate) fn refuse(&mut self, line: &[u8], fault: Fault, origin: Origin<'_>) {
+        let note = self.desk.tape_note();
+        match origin {
+            Origin::Typed => {
+                let answer = Answer::<A>::Refused(fault);
+                self.console.answer(&answer);
+                say_reason(&mut self.console, &self.host, line, fault, note);
+            }
+            Origin::Script(place) => {
+                self.has_refused = true;
+                if self.is_batch {
+                    say_refusal_at(&mut self.errors, &self.host, place, line, fault, note);
+                } else {
+                    say_refusal_at(&mut self.console, &self.host, place, line, fault, note);
+                }
+            }
+        }
+    }
+
+    /// Does a line of the console's language.
+    pub(crate) fn obey(&mut self, text: &[u8], origin: Origin<'_>) {
+        match parse_line(self.alloc, text) {
+            Err(fault) => self.refuse(text, fault, origin),
+            Ok(Line::Step { turns }) if !self.is_batch => self.run_by_count(turns, false, origin),
+            Ok(Line::Continue { turns }) if !self.is_batch => self.run_by_count(
+                turns, true, origin,
+            ),
+            Ok(line) => self.obey_line(text, line, origin),
+        }
+    }
+
+    /// Does a line in one piece.
+    fn obey_line(&mut self, text: &[u8], line: Line<A>, origin: Origin<'_>) {
+        if let Line::Save { drive, name } = &line {
+            match self.saving(name.as_slice(), origin) {
+                Saving::Writes => {}
+                Saving::Nothing => return self.answer_save(text, *drive, name.as_slice(), origin),
+                Saving::Refused => return self.console.say("Not written.\n"),
+            }
+            let _ = self.written.add(self.alloc, name.as_slice());
+        }
+        let change = change_of(&line);
+        match self.desk.attempt(self.alloc, line) {
+            None => {}
+            Some(Answer::Refused(fault)) => self.refuse(text, fault, origin),
+            Some(answer) => {
+                self.console.answer(&answer);
+                self.warn_of_tape(text, origin);
+                match change {
+                    Change::None => {}
+                    Change::Pack(drive) => self.saved.forget(drive),
+                    Change::Saved(drive) => self.saved.note(self.alloc, &mut self.desk, drive),
+                }
+            }
+        }
+    }
+
+    /// Warns of a tape that has no block.
+    fn warn_of_tape(&mut self, text: &[u8], origin: Origin<'_>) {
+        let warning = match self.desk.tape_note() {
+            TapeNote::Empty => "the file is empty: there is no block on the tape",
+            TapeNote::Zeros => "the file has zeros alone: there is no block on the tape",
+            _ => return,
+        };
+        let said = if self.is_batch {
+            &mut self.errors
+        } else {
+            &mut self.console
+        };
+        match origin {
+            Origin::Typed => said.say("  "),
+            Origin::Script(place) => say_at(said, place, text),
+        }
+        said.say(warning);
+        said.say(".\n");
+    }
+
+    /// What becomes of a `save` to a file.
+    fn saving(&mut self, name: &[u8], origin: Origin<'_>) -> Saving {
+        if self.is_saveless {
+            return Saving::Nothing;
+        }
+        let Origin::Script(place) = origin else {
+            return Saving::Writes;
+        };
+        let is_watched = self.input.is_terminal() && !self.is_batch;
+        if is_watched
+            && !self.written.has(name)
+            && self.host.is_newer(name, place.script)
+            && !self.agrees(name, place.script)
+        {
+            return Saving::Refused;
+        }
+        Saving::Writes
+    }
+
+    /// Asks whether a file that is newer than a script may be written by it.
+    fn agrees(&mut self, name: &[u8], script: &[u8]) -> bool {
+        self.console.put(name);
+        self.console.say(" is newer than ");
+        self.console.put(script);
+        self.console.say(": write it (y, or another key)? ");
+        for _ in 0..u64::MAX {
+            match self.input.next() {
+                Press::Byte(key) => {
+                    let is_agreed = key == b'y' || key == b'Y';
+                    self.console.say(if is_agreed { "y\n" } else { "no\n" });
+                    return is_agreed;
+                }
+                Press::Nothing => self.input.pause(),
+                Press::End => return false,
+            }
+        }
+        false
+    }
+
+    /// Answers a `save`, and writes nothing.
+    fn answer_save(&mut self, text: &[u8], drive: u32, name: &[u8], origin: Origin<'_>) {
+        if let Some(fault) = self.desk.save_refusal(self.alloc, drive) {
+            self.refuse(text, fault, origin);
+            return;
+        }
+        self.console.answer(&Answer::<A>::Done);
+        if let Origin::Typed = origin {
+            self.console.say("  nothing is written: --no-save.\n");
+        }
+        let _ = self.unwritten.add(self.alloc, name);
+        self.saved.note(self.alloc, &mut self.desk, drive);
+    }
+}

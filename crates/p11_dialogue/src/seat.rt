@@ -1,0 +1,140 @@
+// The console, and all that stands on it.
+ghost use Rattle.std.specs.Prelude.{List};
+ghost use Rattle.p11_dialogue.specs.Deeds.{Deed, Dialogue, scene};
+
+use crate::console::Console;
+use crate::desk::{Desk, Ending, Opening, Parting};
+use crate::host::Host;
+use crate::keyboard::{Input, Keyboard, Waiting};
+use crate::names::Names;
+use crate::unsaved::SavedPacks;
+use p11_panel::Store;
+use std::alloc::Allocator;
+use std::io::Write;
+
+/// What is asked for.
+#[derive(Clone, Copy, PartialEq, Eq)]
+pub struct Wish<'a> {
+    /// The name of a file whose lines are done first.
+    pub script: Option<&'a [u8]>,
+    /// Whether the machine's terminal comes before the console.
+    pub is_talk: bool,
+    /// Turns between two looks at the keyboard, at most.
+    pub slice: u32,
+    /// Whether the script is all: nothing is read from the keyboard, and each line has one answer, as a script of `p11`.
+    pub is_batch: bool,
+    /// Whether a script of `is_batch` ends at the first line that is refused.
+    pub is_strict: bool,
+    /// Whether `save` is answered, and writes nothing.
+    pub is_saveless: bool,
+}
+
+/// The console, and all that stands on it.
+pub(crate) struct Seat<A: Allocator, S: Store, T: Write, L: Write, O: Opening, K, W, E> {
+    pub(crate) alloc: A,
+    pub(crate) desk: Desk<A, S, T, L, O>,
+    pub(crate) input: Input<K>,
+    pub(crate) console: Console<W>,
+    /// For what is said of a script that nobody watches.
+    pub(crate) errors: Console<W>,
+    pub(crate) host: E,
+    pub(crate) waiting: Waiting,
+    pub(crate) saved: SavedPacks<A>,
+    /// The files that were saved.
+    pub(crate) written: Names<A>,
+    /// The files that would have been saved.
+    pub(crate) unwritten: Names<A>,
+    pub(crate) slice: u32,
+    pub(crate) is_batch: bool,
+    pub(crate) is_strict: bool,
+    pub(crate) is_saveless: bool,
+    /// Whether the packs that no file has were told of, and nothing was done since.
+    pub(crate) is_warned: bool,
+    /// Whether it was said how one comes back from the machine's terminal.
+    pub(crate) is_told: bool,
+    /// Whether a line of a script was refused.
+    pub(crate) has_refused: bool,
+    /// Whether a script can't be had.
+    pub(crate) lacks_script: bool,
+}
+
+impl<
+    A: Allocator + Copy,
+    S: Store,
+    T: Write,
+    L: Write,
+    O: Opening,
+    K: Keyboard + Drop,
+    W: Write + Drop,
+    E: Host + Drop,
+> Seat<A, S, T, L, O, K, W, E> {
+    pub(crate) fn new(
+        alloc: A,
+        desk: Desk<A, S, T, L, O>,
+        input: Input<K>,
+        (console, errors): (Console<W>, Console<W>),
+        host: E,
+        wish: &Wish<'_>,
+    ) -> Self {
+        Seat {
+            alloc,
+            desk,
+            input,
+            console,
+            errors,
+            host,
+            waiting: Waiting::new(),
+            saved: SavedPacks::new(alloc),
+            written: Names::new(alloc),
+            unwritten: Names::new(alloc),
+            slice: wish.slice,
+            is_batch: wish.is_batch,
+            is_strict: wish.is_strict,
+            is_saveless: wish.is_saveless,
+            is_warned: false,
+            is_told: false,
+            has_refused: false,
+            lacks_script: false,
+        }
+    }
+
+    /// Leaves it: what is left.
+    pub(crate) fn part(self) -> Parting<A, S, T, L>
+        ensures { (deeds : List (Deed A)) × Dialogue deeds result.is_screen_torn result.is_journal_torn O.opening
+            (scene result.station.panel (S.state result.station.store) (T.contents result.station.screen)
+            (L.contents result.station.journal)) }
+    {
+        let Seat {
+            alloc: _,
+            desk,
+            input,
+            console,
+            errors,
+            host: _,
+            waiting: _,
+            saved: _,
+            written: _,
+            unwritten: _,
+            slice: _,
+            is_batch: _,
+            is_strict: _,
+            is_saveless: _,
+            is_warned: _,
+            is_told: _,
+            has_refused,
+            lacks_script,
+        } = self;
+        let console_torn = console.is_torn() || errors.is_torn();
+        desk.part(Ending {
+            is_console_torn: console_torn,
+            has_read_fault: input.has_failed(),
+            has_refused,
+            lacks_script,
+        })
+    }
+
+    /// Whether no writer has failed.
+    pub(crate) fn can_go_on(&self) -> bool {
+        !self.desk.is_torn() && !self.console.is_torn() && !self.errors.is_torn()
+    }
+}

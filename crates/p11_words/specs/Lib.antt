@@ -1,0 +1,3 @@
+-- Bits of words, and due turns.
+pub mod Bits
+pub mod DueTurns
