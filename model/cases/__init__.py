@@ -1,0 +1,1 @@
+"""Random scripts for the machine, made from a seed (fuzz.py)."""
