@@ -8,17 +8,10 @@
 
 static const char *const lines[] = {"load tape", "set 6 1000", "start 1000", "continue 10000", "regs",
                                     "mount 0 blank rw", "save 0 pack"};
-static uint8_t answer[65536], typed[4096], left[4 << 20];
+static uint8_t answer[65536], typed[4096], pack[4 << 20];
 
 static const uint8_t *bytes_of(const char *text) {
     return (const uint8_t *)text;
-}
-
-/* The bytes behind a number, and how many they are: what is behind them. */
-static const uint8_t *take(const uint8_t *at, const uint8_t **bytes, uint32_t *length) {
-    *length = at[0] | at[1] << 8 | at[2] << 16 | (uint32_t)at[3] << 24;
-    *bytes = at + 4;
-    return *bytes + *length;
 }
 
 int main(int argc, char **argv) {
@@ -30,7 +23,7 @@ int main(int argc, char **argv) {
 
     struct p11_handle machine = {0};
     struct p11_registers regs;
-    size_t text, bytes, all = 0, list;
+    size_t text, bytes, all = 0, saved;
     if (p11_line(&machine, tape, 0) != P11_NO_MACHINE) return 1;
     int status = p11_new(28, 1024, tape, 0, &machine);
     if (status == P11_DONE) status = p11_put_file(&machine, bytes_of("tape"), 4, tape, size);
@@ -43,19 +36,12 @@ int main(int argc, char **argv) {
         if (status == P11_DONE) all += bytes;
     }
     if (status == P11_DONE) status = p11_regs(&machine, &regs);
-    if (status == P11_DONE) status = p11_files(&machine, left, sizeof left, &list);
+    if (status == P11_DONE) status = p11_file(&machine, bytes_of("pack"), 4, pack, sizeof pack, &saved);
     p11_drop(&machine);
     if (status != P11_DONE) return fprintf(stderr, "lines: status %d\n", status), 1;
     fwrite(typed, 1, all, stdout);
     printf("R0 is %06o\n", regs.general[0]);
 
-    const uint8_t *at = left, *name, *pack;
-    for (uint32_t length; at < left + list;) {
-        at = take(at, &name, &length);
-        int is_pack = length == 4 && memcmp(name, "pack", 4) == 0;
-        at = take(at, &pack, &length);
-        FILE *out = is_pack ? fopen(argv[2], "wb") : NULL;
-        if (out && (fwrite(pack, 1, length, out) != length || fclose(out))) return 2;
-    }
-    return 0;
+    FILE *out = fopen(argv[2], "wb");
+    return !out || fwrite(pack, 1, saved, out) != saved || fclose(out) ? 2 : 0;
 }

@@ -1,7 +1,6 @@
 """lines.py LIBRARY TAPE PACK: keeps a machine, puts a tape and an empty pack into its store, and does one line at a
 time; prints each answer, and behind them what was typed and R0; saves a pack of its own as PACK."""
 import ctypes
-import struct
 import sys
 
 LINES = [b"load tape", b"set 6 1000", b"start 1000", b"continue 10000", b"regs", b"mount 0 blank rw", b"save 0 pack"]
@@ -19,16 +18,6 @@ class Registers(ctypes.Structure):
         (name, ctypes.c_uint16) for name in ("kernel_sp", "user_sp", "pc", "status", "status_0", "status_2", "mark")]
 
 
-def files_of(row):
-    """The files of a row, by name; the last of a name counts."""
-    parts = []
-    while row:
-        end = 4 + struct.unpack_from("<I", row)[0]
-        parts.append(row[4:end])
-        row = row[end:]
-    return dict(zip(parts[::2], parts[1::2]))
-
-
 class Machine:
     """A machine that is kept from line to line."""
 
@@ -40,13 +29,13 @@ class Machine:
         if status:
             raise RuntimeError(f"status {status}")
 
-    def handed(self, call):
+    def handed(self, call, *words):
         """What a call hands out, in a buffer that has just the room for it."""
         length = ctypes.c_size_t()
         status = TOO_SMALL
         while status == TOO_SMALL:
             out = ctypes.create_string_buffer(length.value + 1)
-            status = call(ctypes.byref(self.handle), out, ctypes.c_size_t(length.value), ctypes.byref(length))
+            status = call(ctypes.byref(self.handle), *words, out, ctypes.c_size_t(length.value), ctypes.byref(length))
         self.done(status)
         return out.raw[:length.value]
 
@@ -64,8 +53,8 @@ class Machine:
         self.done(self.p11.p11_regs(ctypes.byref(self.handle), ctypes.byref(registers)))
         return registers
 
-    def files(self):
-        return files_of(self.handed(self.p11.p11_files))
+    def file(self, name):
+        return self.handed(self.p11.p11_file, name, ctypes.c_size_t(len(name)))
 
     def drop(self):
         self.p11.p11_drop(ctypes.byref(self.handle))
@@ -78,5 +67,5 @@ machine.put(b"blank", b"")
 answers, typed = zip(*map(machine.line, LINES))
 sys.stdout.buffer.write(b"".join(answers + typed) + b"R0 is %06o\n" % machine.registers().general[0])
 with open(sys.argv[3], "wb") as pack:
-    pack.write(machine.files()[b"pack"])
+    pack.write(machine.file(b"pack"))
 machine.drop()

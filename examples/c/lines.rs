@@ -36,7 +36,9 @@ unsafe extern "C" {
     fn p11_answer(handle: &mut Handle, answer: *mut u8, capacity: usize, length: &mut usize) -> i32;
     fn p11_typed_text(handle: &mut Handle, typed: *mut u8, capacity: usize, length: &mut usize) -> i32;
     fn p11_regs(handle: &mut Handle, regs: &mut Registers) -> i32;
-    fn p11_files(handle: &mut Handle, files: *mut u8, capacity: usize, length: &mut usize) -> i32;
+    fn p11_file(
+        handle: &mut Handle, name: *const u8, name_length: usize, bytes: *mut u8, capacity: usize, length: &mut usize,
+    ) -> i32;
     fn p11_drop(handle: &mut Handle);
 }
 
@@ -86,6 +88,23 @@ impl Machine {
         }
     }
 
+    /// The last bytes under a name.
+    fn file(&mut self, name: &str) -> Result<Vec<u8>, i32> {
+        let (mut out, mut length) = (Vec::new(), 0);
+        loop {
+            out.resize(length, 0);
+            // SAFETY: the handle is this machine's alone, and each pointer and its length are those of one slice or `Vec`.
+            let status = unsafe {
+                p11_file(&mut self.handle, name.as_ptr(), name.len(), out.as_mut_ptr(), out.len(), &mut length)
+            };
+            match status {
+                0 => return Ok(out),
+                4 => continue,
+                status => return Err(status),
+            }
+        }
+    }
+
     fn registers(&mut self) -> Result<Registers, i32> {
         let mut registers = Registers::default();
         // SAFETY: the handle is this machine's alone.
@@ -103,12 +122,6 @@ impl Drop for Machine {
     }
 }
 
-/// The bytes at the front of a row, and what follows them.
-fn take(row: &[u8]) -> (&[u8], &[u8]) {
-    let (length, rest) = row.split_at(4);
-    rest.split_at(u32::from_le_bytes(length.try_into().unwrap()) as usize)
-}
-
 fn main() -> io::Result<()> {
     let paths: Vec<String> = env::args().collect();
     let tape = fs::read(&paths[1])?;
@@ -124,15 +137,5 @@ fn main() -> io::Result<()> {
     }
     io::stdout().write_all(&typed)?;
     println!("R0 is {:06o}", machine.registers().map_err(failed)?.general[0]);
-    let files = machine.handed(p11_files).map_err(failed)?;
-    let mut row = &files[..];
-    while !row.is_empty() {
-        let (name, rest) = take(row);
-        let (bytes, after) = take(rest);
-        if name == b"pack" {
-            fs::write(&paths[2], bytes)?;
-        }
-        row = after;
-    }
-    Ok(())
+    fs::write(&paths[2], machine.file("pack").map_err(failed)?)
 }

@@ -1,7 +1,8 @@
 /* over CASES: plays cases, each a session with the answers that it is to have, by p11_session and p11_typed, with
  * buffers that are too small, and with buffers of just the wanted length, and line by line on a machine in a handle,
- * whose files are those of a row or are put one by one, and whose registers are compared with what the console shows of
- * them; says how many, or stops at the first that is wrong. A case is two numbers (thousands of words, decoded
+ * whose files are those of a row or are put one by one, whose runs are lines or calls of p11_run, and whose registers,
+ * waiting keys and files are compared with what the console and p11_files show of them; says how many, or stops at the
+ * first that is wrong. A case is two numbers (thousands of words, decoded
  * instructions) and four rows of bytes behind their lengths: script, files, answers, typed. Numbers are of 4 bytes, the
  * lowest first. */
 #define _DEFAULT_SOURCE
@@ -100,6 +101,13 @@ static int shows(struct p11_handle *machine, char *text, size_t size) {
                     (unsigned long long)r.turns, marks[r.mark], r.status_0, r.status_2) > 0;
 }
 
+/* Whether the keys that wait are those that the console shows. */
+static int waits(struct p11_handle *machine, const char *devices) {
+    uint32_t keys = 7, shown = 8;
+    const char *found = strstr(devices, " keys ");
+    return p11_keys_waiting(machine, &keys) == P11_DONE && found && sscanf(found, " keys %u", &shown) == 1 && keys == shown;
+}
+
 /* The same of the console: what it answers to regs, and its line MMU of what it answers to device. */
 static int is_shown(struct p11_handle *machine) {
     char told[256], shown[2048];
@@ -111,12 +119,50 @@ static int is_shown(struct p11_handle *machine) {
     if (!good) return 0;
     shown[length + more] = 0;
     const char *mapping = strstr(shown, "MMU ");
-    if (!mapping || memcmp(told, shown, length)) return 0;
+    if (!mapping || memcmp(told, shown, length) || !waits(machine, shown)) return 0;
     return strncmp(told + length, mapping, strlen(told + length)) == 0;
 }
 
+/* Whether a line is a run, and of how many turns. */
+static int is_run(const uint8_t *line, size_t length, uint32_t *turns, uint32_t *until_idle) {
+    char text[64], word[9];
+    int end = 0;
+    if (length >= sizeof text) return 0;
+    for (size_t i = 0; i < length; i++)
+        if (line[i] < 33 && line[i] != ' ' && line[i] != '\t') return 0;
+    memcpy(text, line, length);
+    text[length] = 0;
+    if (sscanf(text, " %8[a-z] %9u %n", word, turns, &end) != 2 || (size_t)end != length || strchr(text, '-') || strchr(text, '+'))
+        return 0;
+    *until_idle = strcmp(word, "continue") == 0;
+    return (*until_idle || strcmp(word, "step") == 0) && *turns > 0 && *turns <= 100000000;
+}
+
+/* Makes a run: its numbers are those of the line STOP at the end of its text. */
+static int runs(struct p11_handle *machine, uint32_t turns, uint32_t until_idle) {
+    static const char *const reasons[] = {"halt", "turns", "idle", "memory"};
+    struct p11_run_told told;
+    size_t length = 0;
+    char wanted[64];
+    if (p11_run(machine, turns, until_idle, &told) != P11_DONE || told.reason > P11_MEMORY) return 0;
+    if (p11_answer(machine, (uint8_t *)wanted, 0, &length) != P11_TOO_SMALL) return 0;
+    struct bytes text = room(length);
+    int good = p11_answer(machine, text.at, length, &length) == P11_DONE;
+    size_t stop = (size_t)snprintf(wanted, sizeof wanted, "STOP %s %u %06o\n", reasons[told.reason], told.turns, told.pc);
+    good &= length >= stop && memcmp(text.at + length - stop, wanted, stop) == 0;
+    free(text.at);
+    return good;
+}
+
+/* Does a line, and a run by its own call where that is asked for. */
+static int does(struct p11_handle *machine, const uint8_t *line, size_t length, int by_run) {
+    uint32_t turns, until_idle;
+    if (by_run && is_run(line, length, &turns, &until_idle)) return runs(machine, turns, until_idle);
+    return p11_line(machine, line, length) == P11_DONE;
+}
+
 /* The same lines one by one, on a machine that is kept: all their answers, and what was typed. */
-static int keeps(struct p11_handle *machine, struct bytes script, struct bytes wanted, struct bytes wanted_typed) {
+static int keeps(struct p11_handle *machine, int by_run, struct bytes script, struct bytes wanted, struct bytes wanted_typed) {
     struct bytes out = room(wanted.length), typed = room(wanted_typed.length);
     size_t done = 0, text = 7, all = 0, bytes = 7;
     int good = 1;
@@ -124,7 +170,7 @@ static int keeps(struct p11_handle *machine, struct bytes script, struct bytes w
         for (end = from; end < script.length && script.at[end] != '\n'; end++) continue;
         size_t length = end - from;
         if (end < script.length && length && script.at[end - 1] == '\r') length--;
-        good &= p11_line(machine, script.at + from, length) == P11_DONE;
+        good &= does(machine, script.at + from, length, by_run);
         good &= p11_answer(machine, out.at + done, out.length - done, &text) == P11_DONE;
         int32_t status = p11_typed_text(machine, typed.at + all, 0, &bytes);
         good &= status == (bytes ? P11_TOO_SMALL : P11_DONE);
@@ -137,6 +183,56 @@ static int keeps(struct p11_handle *machine, struct bytes script, struct bytes w
     return good && is_shown(machine);
 }
 
+/* The files of a machine, as their row. */
+static struct bytes files_of(struct p11_handle *machine) {
+    uint8_t none;
+    size_t length = 0;
+    p11_files(machine, &none, 0, &length);
+    struct bytes row = room(length);
+    if (p11_files(machine, row.at, length, &length) != P11_DONE || length != row.length) exit(3);
+    return row;
+}
+
+static int is_same(struct bytes one, struct bytes other) {
+    return one.length == other.length && memcmp(one.at, other.at, one.length) == 0;
+}
+
+/* Whether a name has the last bytes that a row has for it, or none where it has none. */
+static int finds(struct p11_handle *machine, struct bytes row, struct bytes name) {
+    struct bytes last = {NULL, 0};
+    while (row.length) {
+        struct bytes other = next(&row), held = next(&row);
+        if (is_same(name, other)) last = held;
+    }
+    size_t length = 7;
+    struct bytes out = room(last.length);
+    int32_t status = p11_file(machine, name.at, name.length, out.at, out.length, &length);
+    int good = last.at ? status == P11_DONE && length == last.length && memcmp(out.at, last.at, length) == 0
+                       : status == P11_NO_FILE && length == 7;
+    if (last.length) good &= p11_file(machine, name.at, name.length, out.at, last.length - 1, &length) == P11_TOO_SMALL;
+    free(out.at);
+    return good;
+}
+
+/* Each name has its last bytes; once the first is forgotten it has none, and the others have what they had. */
+static int forgets(struct p11_handle *machine) {
+    struct bytes row = files_of(machine), rest = row, first = {row.at, 0};
+    int good = 1;
+    if (row.length) first = next(&rest);
+    for (rest = row; good && rest.length; next(&rest)) good &= finds(machine, row, next(&rest));
+    good &= p11_forget(machine, first.at, first.length) == (row.length ? P11_DONE : P11_NO_FILE);
+    good &= p11_forget(machine, first.at, first.length) == P11_NO_FILE;
+    struct bytes left = files_of(machine), kept = left;
+    for (rest = row; good && rest.length;) {
+        struct bytes name = next(&rest), held = next(&rest);
+        if (is_same(name, first)) continue;
+        good &= kept.length > 0 && is_same(name, next(&kept)) && is_same(held, next(&kept));
+    }
+    good &= kept.length == 0;
+    free(row.at), free(left.at);
+    return good;
+}
+
 /* A machine with the files of a row, and one to which they are put: both keep the lines, and are dropped. */
 static int keeps_both(uint32_t kwords, uint32_t lines, struct bytes script, struct bytes files, struct bytes answers,
                       struct bytes typed) {
@@ -144,9 +240,9 @@ static int keeps_both(uint32_t kwords, uint32_t lines, struct bytes script, stru
     uint8_t none;
     size_t list = 7, text = 7;
     int good = p11_new(kwords, lines, files.at, files.length, &machine) == P11_DONE && machine.machines == 1;
-    good &= keeps(&machine, script, answers, typed);
+    good &= keeps(&machine, 0, script, answers, typed);
     good &= p11_files(&machine, &none, 0, &list) == (list ? P11_TOO_SMALL : P11_DONE) && list >= files.length;
-    if (files.length) good &= puts_files(kwords, lines, files, &machine) && keeps(&machine, script, answers, typed);
+    good &= puts_files(kwords, lines, files, &machine) && keeps(&machine, 1, script, answers, typed) && forgets(&machine);
     p11_drop(&machine);
     return good && machine.machines == 0 && p11_answer(&machine, &none, 0, &text) == P11_NO_MACHINE && text == 7;
 }
@@ -159,12 +255,20 @@ static int refuses_files(void) {
     if (zeros == MAP_FAILED) return 0;
     struct p11_handle machine = {0};
     struct p11_registers regs, same;
+    struct p11_run_told told = {7, 7, 7};
+    uint32_t keys = 7;
     struct bytes out = room(9);
     memset(&regs, 0xa5, sizeof regs), memset(&same, 0xa5, sizeof same);
     int good = p11_put_file(&machine, zeros, 1, zeros, 1) == P11_NO_MACHINE;
     good &= p11_typed_text(&machine, out.at, 9, &length) == P11_NO_MACHINE && length == 7;
     good &= p11_regs(&machine, &regs) == P11_NO_MACHINE && memcmp(&regs, &same, sizeof regs) == 0;
+    good &= p11_run(&machine, 1, 0, &told) == P11_NO_MACHINE && told.turns == 7 && told.reason == 7 && told.pc == 7;
+    good &= p11_file(&machine, zeros, 1, out.at, 9, &length) == P11_NO_MACHINE && length == 7;
+    good &= p11_forget(&machine, zeros, 1) == P11_NO_MACHINE;
+    good &= p11_keys_waiting(&machine, &keys) == P11_NO_MACHINE && keys == 7;
     good &= p11_new(4, 0, zeros, 0, &machine) == P11_DONE;
+    good &= p11_run(&machine, 0, 0, &told) == P11_TOO_MANY && p11_run(&machine, 100000001, 1, &told) == P11_TOO_MANY;
+    good &= told.turns == 7 && told.reason == 7 && told.pc == 7;
     good &= p11_put_file(&machine, zeros, large, zeros, 0) == P11_BAD_FILES;
     good &= p11_put_file(&machine, zeros, 0, zeros, large) == P11_BAD_FILES;
     good &= p11_files(&machine, out.at, 9, &length) == P11_DONE && length == 0 && is_untouched(out);

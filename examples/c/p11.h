@@ -22,7 +22,9 @@ enum {
     P11_BAD_FILES = 3, /* the bytes of the files are no row of files, or no row has a file of these lengths */
     P11_TOO_SMALL = 4, /* a buffer is too small: the lengths are told */
     P11_TOO_LONG = 5,  /* the script wasn't read to its end: it has 4,095,995,904 bytes or more */
-    P11_NO_MACHINE = 6 /* the handle holds no machine */
+    P11_NO_MACHINE = 6, /* the handle holds no machine */
+    P11_NO_FILE = 7,   /* the machine's store has no file of this name */
+    P11_TOO_MANY = 8   /* no run has so many turns */
 };
 
 #if defined(__GNUC__)
@@ -96,6 +98,30 @@ int32_t p11_new(uint32_t kwords, uint32_t lines, const uint8_t *files, size_t fi
 P11_NONNULL
 int32_t p11_line(struct p11_handle *handle, const uint8_t *line, size_t length);
 
+/* Why a run made no more turns: the reason of p11_run_told. */
+enum {
+    P11_HALT = 0,  /* the machine has halted */
+    P11_TURNS = 1, /* all turns are made */
+    P11_IDLE = 2,  /* the machine waits, and nothing is due that ends it */
+    P11_MEMORY = 3 /* the next turn wants memory that isn't there; the run can go on later with nothing lost */
+};
+
+/* What a run came to, as the line STOP shows it. */
+struct p11_run_told {
+    uint32_t turns;  /* the turns that were made */
+    uint16_t reason; /* P11_HALT, P11_TURNS, P11_IDLE or P11_MEMORY */
+    uint16_t pc;     /* the program counter, R7 */
+};
+
+/* Makes a run of so many turns, 1 to 100,000,000: as the line `step`, if until_idle is 0, and else as the line `continue`.
+ * The text of that line's answer is kept with the machine, in the place of the last.
+ *
+ * P11_DONE: the run is made, and all fields of run, which is the caller's, are written. P11_NO_MEMORY: the same, but for
+ * the text there was memory for a front alone. P11_TOO_MANY: 0 turns, too many, or so many that the machine's count of
+ * turns would be above 2^62; nothing is done and nothing is written, and so at P11_NO_MACHINE. */
+P11_NONNULL
+int32_t p11_run(struct p11_handle *handle, uint32_t turns, uint32_t until_idle, struct p11_run_told *run);
+
 /* Puts a file into the machine's store: from then on its name has these bytes, in the place of any that it had.
  *
  * name, name_length    the name by which mount and load find the file, in bytes; not ended by a 0
@@ -103,12 +129,29 @@ int32_t p11_line(struct p11_handle *handle, const uint8_t *line, size_t length);
  *
  * Both are copied. P11_DONE: the file stands behind the others (p11_files). P11_NO_MEMORY: there is no memory for the
  * copy. P11_BAD_FILES: the name or the file has 4,294,967,296 bytes or more. At these two nothing changes, and at
- * P11_NO_MACHINE nothing is done. The machine and the text of the last p11_line stay as they are. */
+ * P11_NO_MACHINE nothing is done. The machine and the text of the last p11_line or p11_run stay as they are. */
 P11_NONNULL
 int32_t p11_put_file(struct p11_handle *handle, const uint8_t *name, size_t name_length, const uint8_t *bytes,
                      size_t bytes_length);
 
-/* Hands out the text of the last p11_line, as ./p11 writes it; not ended by a 0. None yet is a text of 0 bytes.
+/* Hands out the last bytes of a name in the machine's store: those that were put, given or saved last.
+ *
+ * name, name_length                   as for p11_put_file
+ * bytes, bytes_capacity, bytes_length as those of p11_answer for the text
+ *
+ * As p11_answer, and P11_NO_FILE: the store has no file of the name, and nothing is written. */
+P11_NONNULL
+int32_t p11_file(struct p11_handle *handle, const uint8_t *name, size_t name_length, uint8_t *bytes,
+                 size_t bytes_capacity, size_t *bytes_length);
+
+/* Forgets a name: each file of it in the machine's store is dropped, and its memory is free. What is mounted stays.
+ *
+ * P11_DONE: mount and load find no file of the name from then on, and p11_files has none. P11_NO_FILE: there was none, and
+ * nothing changes. P11_NO_MACHINE: nothing is done. */
+P11_NONNULL
+int32_t p11_forget(struct p11_handle *handle, const uint8_t *name, size_t name_length);
+
+/* Hands out the text of the last p11_line or p11_run, as ./p11 writes it; not ended by a 0. None yet is a text of 0 bytes.
  *
  * P11_DONE: answer begins with the text, its other bytes are as they were, and answer_length is told the bytes of the
  * text. P11_TOO_SMALL: answer_length is told them, and no byte of answer is written. P11_NO_MACHINE: nothing is written.
@@ -116,8 +159,8 @@ int32_t p11_put_file(struct p11_handle *handle, const uint8_t *name, size_t name
 P11_NONNULL
 int32_t p11_answer(struct p11_handle *handle, uint8_t *answer, size_t answer_capacity, size_t *answer_length);
 
-/* Hands out the bytes that were typed on the terminal in the runs of the last p11_line (what the lines TTY of its text
- * show), as they are; typed, typed_capacity and typed_length are for them what those of p11_answer are for the text. As
+/* Hands out the bytes that were typed on the terminal in the runs of the last p11_line, or in the last p11_run (what the
+ * lines TTY of its text show), as they are; typed, typed_capacity and typed_length are for them what those of p11_answer are for the text. As
  * p11_answer, and P11_NO_MEMORY: there is no memory for a copy of these bytes, and nothing is written. */
 P11_NONNULL
 int32_t p11_typed_text(struct p11_handle *handle, uint8_t *typed, size_t typed_capacity, size_t *typed_length);
@@ -142,11 +185,17 @@ struct p11_registers {
     uint16_t mark;       /* P11_READY, P11_WAITING or P11_HALTED */
 };
 
-/* Tells the machine's registers, with no effect on it; the text of the last p11_line stays too.
+/* Tells the machine's registers, with no effect on it; the text of the last p11_line or p11_run stays too.
  *
  * P11_DONE: all fields of regs, which is the caller's, are written. P11_NO_MACHINE: nothing is written. */
 P11_NONNULL
 int32_t p11_regs(struct p11_handle *handle, struct p11_registers *regs);
+
+/* Tells how many keys wait for the machine to take them, 0 to 64, with no effect on it; the line `key` presses more of them.
+ *
+ * P11_DONE: keys is written. P11_NO_MACHINE: nothing is written. */
+P11_NONNULL
+int32_t p11_keys_waiting(struct p11_handle *handle, uint32_t *keys);
 
 /* Hands out the machine's files, as a row of the form that p11_session takes: those that were given, and behind them
  * those that were put or saved, in that order. As p11_answer, and P11_NO_MEMORY: there is no memory for the row, and

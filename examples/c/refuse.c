@@ -58,6 +58,12 @@ static int keeps(void) {
         typed = 7;
         good &= is_handed(p11_typed_text(&machine, out, sizeof out, &typed), typed);
     }
+    if (machine.machines) {
+        struct p11_run_told told = {0, 0, 0};
+        status = p11_run(&machine, 9, 0, &told);
+        good &= status == P11_DONE || status == P11_NO_MEMORY;
+        good &= told.reason == P11_TURNS ? told.turns == 9 : told.reason == P11_HALT && told.turns == 1;
+    }
     status = p11_files(&machine, list, sizeof list, &list_length);
     good &= is_handed(status, list_length);
     int is_last = list_length > 15 && list[14] == 'p' && list[15] == 9;

@@ -1,0 +1,194 @@
+"""The machines that examples/lockstep sets side by side: the proved one over the library, SIMH's, and any command that
+speaks the protocol of examples/lockstep. Each has the protocol's lines as calls:
+
+    new(kwords), disk(image), put(address, words), go(address), until(address), step(turns), drop()
+
+`step` and `until` give the state: R0 to R5, the stack pointers of kernel and user mode, PC and the status word; and how it
+stands: ready, waiting, halted or between.
+"""
+import os
+import pty
+import re
+import select
+import subprocess
+import tempfile
+import tty
+
+from p11_library import Machine
+
+NAMES = ["R0", "R1", "R2", "R3", "R4", "R5", "KSP", "USP", "PC", "PSW"]
+MOST = 100000000
+
+
+class Ours:
+    """The proved machine."""
+
+    def __init__(self, library):
+        self.library, self.machine = library, None
+
+    def new(self, kwords):
+        self.drop()
+        self.machine = Machine(self.library, kwords)
+
+    def drop(self):
+        if self.machine is not None:
+            self.machine.drop()
+
+    def disk(self, image):
+        self.machine.put(b"pack", image)
+        self.machine.line("mount 0 pack rw")
+
+    def put(self, address, words):
+        for at in range(0, len(words), 64):
+            self.machine.line(f"deposit {address + 2 * at:o} " + " ".join(f"{word:o}" for word in words[at:at + 64]))
+
+    def go(self, address):
+        self.machine.line(f"start {address:o}")
+
+    def step(self, turns):
+        while turns:
+            self.machine.line(f"step {min(turns, MOST)}")
+            turns -= min(turns, MOST)
+        return self.state()
+
+    def state(self):
+        registers, mark, _ = self.machine.registers()
+        return registers, mark
+
+    def until(self, address):
+        for _ in range(MOST):
+            registers, mark = self.step(1)
+            if registers[8] == address or mark == "halted":
+                return registers, mark
+        raise ValueError(f"PC isn't {address:o} after {MOST} turns")
+
+    def words_at_pc(self):
+        """Three words from PC on, through memory management where it is on; None where nothing answers."""
+        registers, _, status_0 = self.machine.registers()
+        place = registers[8]
+        try:
+            if status_0 & 1:
+                pages = 0o777600 if registers[9] & 0o140000 else 0o772300
+                base = self.machine.words(pages + 0o40 + place // 0o20000 * 2)[0]
+                bus = (base * 0o100 + place % 0o20000) % 0o1000000
+            else:
+                bus = place + 0o600000 if place >= 0o160000 else place
+            return self.machine.words(bus, 3)
+        except ValueError:
+            return None
+
+
+class Command:
+    """A command that speaks the protocol."""
+
+    def __init__(self, words):
+        self.process = subprocess.Popen(words, stdin=subprocess.PIPE, stdout=subprocess.PIPE, text=True, bufsize=1)
+        self.name = words[0]
+
+    def ask(self, line):
+        self.process.stdin.write(line + "\n")
+        self.process.stdin.flush()
+        answer = self.process.stdout.readline().split()
+        if not answer or answer[0] == "?":
+            raise ValueError(f"{self.name} answers {' '.join(answer) or 'nothing'} to: {line[:60]}")
+        return answer
+
+    def new(self, kwords):
+        self.ask(f"new {kwords}")
+
+    def disk(self, image):
+        with tempfile.NamedTemporaryFile() as file:
+            file.write(image)
+            file.flush()
+            self.ask(f"disk {file.name}")
+
+    def put(self, address, words):
+        for at in range(0, len(words), 64):
+            self.ask(f"put {address + 2 * at:o} " + " ".join(f"{word:o}" for word in words[at:at + 64]))
+
+    def go(self, address):
+        self.ask(f"go {address:o}")
+
+    def state_of(self, answer):
+        if len(answer) != 11:
+            raise ValueError(f"{self.name} answers {' '.join(answer)}, which isn't ten words and how it stands")
+        return tuple(int(word, 8) for word in answer[:10]), answer[10]
+
+    def step(self, turns):
+        return self.state_of(self.ask(f"step {turns}"))
+
+    def until(self, address):
+        return self.state_of(self.ask(f"until {address:o}"))
+
+    def drop(self):
+        self.process.stdin.close()
+        self.process.wait()
+
+
+class Simh:
+    """SIMH's PDP-11 as an 11/40, at its console, which wants a terminal. The transmitter is ready after as many instructions
+    as in the proved machine. A step that ends before the service of a trap is between two turns."""
+
+    SIZES = (16, 32, 48, 64, 96, 128, 192, 256)
+
+    def __init__(self, program):
+        self.program, self.process, self.folder = program, None, tempfile.TemporaryDirectory()
+
+    def ask(self, line):
+        if line:
+            os.write(self.terminal, line.encode() + b"\n")
+        said = b""
+        while not said.endswith(b"sim> "):
+            if not select.select([self.terminal], [], [], 300)[0]:
+                raise ValueError(f"SIMH doesn't answer {line}")
+            said += os.read(self.terminal, 65536)
+        return said.decode("latin-1")
+
+    def new(self, kwords):
+        self.drop()
+        self.terminal, theirs = pty.openpty()
+        tty.setraw(theirs)
+        self.process = subprocess.Popen([self.program], stdin=theirs, stdout=theirs, stderr=theirs)
+        os.close(theirs)
+        self.ask("")
+        size = next(size for size in self.SIZES if size >= 2 * kwords + 8)
+        for line in ("set cpu 11/40", f"set cpu {size}K", "set cpu noidle", "set tto 8b", "d tto time 63"):
+            self.ask(line)
+
+    def disk(self, image):
+        path = os.path.join(self.folder.name, "pack")
+        with open(path, "wb") as file:
+            file.write(image.ljust(2494464, b"\0"))
+        self.ask(f"attach rk0 {path}")
+
+    def put(self, address, words):
+        for at, word in enumerate(words):
+            self.ask(f"d {address + 2 * at:o} {word:o}")
+
+    def go(self, address):
+        for line in ("d psw 0", f"d pc {address:o}"):
+            self.ask(line)
+
+    def state(self, said):
+        shown = dict(re.findall(r"(\w+):\s+([0-7]+)", self.ask("e " + ",".join(NAMES).lower() + ",traps,wait")))
+        how = ("halted" if "HALT instruction" in said else "between" if int(shown["TRAPS"], 8)
+               else "waiting" if shown["WAIT"] == "1" else "ready")
+        return tuple(int(shown[name], 8) for name in NAMES), how
+
+    def step(self, turns):
+        return self.state(self.ask(f"step {turns}") if turns else "")
+
+    def until(self, address):
+        self.ask(f"break {address:o}")
+        said = self.ask("c")
+        self.ask(f"nobreak {address:o}")
+        return self.state(said)
+
+    def drop(self):
+        if self.process is not None:
+            os.write(self.terminal, b"quit\n")
+            try:
+                self.process.wait(10)
+            except subprocess.TimeoutExpired:
+                self.process.kill()
+            os.close(self.terminal)
