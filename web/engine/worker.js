@@ -1,0 +1,265 @@
+// The engine: a machine in a worker. It takes calls as messages { id, call, args } and answers { id, result } or
+// { id, error }; what happens by itself comes as { event, .. }:
+//   typed { bytes }         the machine typed
+//   stop { text }           a run has ended
+//   line { line, answer }   a line of a script that is played was answered
+//   lamps { .. }            how often each lamp was lit since the last of them, and the registers
+//   journal { lines, steps, turns }   what the record has gained
+//   lost { why }            the module has trapped: this machine is gone
+// Runs are made in slices of some milliseconds, so that a key that comes meanwhile is met at once.
+'use strict';
+
+const SLICE_MS = 4, LAMPS_MS = 33, JOURNAL_MS = 250, MOST_LATE_TICKS = 3;
+
+class Engine {
+  constructor(post) {
+    this.post = post;
+    this.session = null;
+    this.kwords = 28;
+    this.slice = 20000;        // turns of the next slice
+    this.hertz = 0;            // ticks of the line clock in a second of the wall, or 0
+    this.pace = 0;             // turns in a second at most, or 0: as fast as it goes
+    this.isQuiet = false;      // whether a script is played that nobody watches
+    this.script = [];          // lines that are still to be played
+    this.scriptDone = null;
+    this.lamps = null;
+    this.timer = 0;
+    this.isAwake = false;
+    this.at = { lamps: 0, journal: 0, tick: 0, budget: 0, rate: 0 };
+    this.sent = { lines: 0, steps: 0, turns: 0 };
+    this.channel = new MessageChannel();
+    this.channel.port1.onmessage = () => { this.isAwake = false; this.guard(() => this.go()); };
+  }
+
+  // A trap leaves no machine that can be trusted; what was done so far can still be had as a record.
+  guard(work) {
+    try {
+      return work();
+    } catch (error) {
+      if (!(error instanceof WebAssembly.RuntimeError) && !(error instanceof RangeError)) throw error;
+      this.session.run = null;
+      this.script = [];
+      this.post({ event: 'lost', why: String(error.message ?? error) });
+      throw error;
+    }
+  }
+
+  wake() {
+    if (this.isAwake || !(this.session?.run || this.scriptDone)) return;
+    this.isAwake = true;
+    this.channel.port2.postMessage(0);
+  }
+
+  // Comes back after so many milliseconds, where nothing wakes it before.
+  wakeIn(ms) {
+    clearTimeout(this.timer);
+    this.timer = setTimeout(() => this.wake(), ms);
+  }
+
+  go() {
+    if (!this.session.run && !this.playOn()) return;
+    if (!this.session.run) { this.wake(); return; }
+    const now = performance.now();
+    this.tick(now);
+    const most = this.allowed(now);
+    if (most === 0) { this.wakeIn(4); return; }
+    const turns = Math.min(this.slice, most), was = this.session.turns;
+    const { typed, isIdle, stop } = this.session.slice(turns);
+    const took = performance.now() - now, made = this.session.turns - was;
+    if (made === turns) this.slice = nextSlice(turns, took);
+    if (typed.length > 0 && !this.isQuiet) this.post({ event: 'typed', bytes: typed });
+    if (typed.length > 0 && this.isQuiet) this.kept.push(typed);
+    this.sample();
+    const isAsleep = isIdle && !stop && this.session.keys.length === 0;
+    if (stop) this.ended(stop);
+    else if (isAsleep || now - this.at.lamps >= LAMPS_MS) this.lit(now, isAsleep);
+    this.journal(stop !== null);
+    if (!isAsleep) this.wake();
+    else if (this.hertz > 0) this.wakeIn(Math.max(1, this.at.tick - performance.now()));
+  }
+
+  ended(stop) {
+    if (this.isQuiet) return;
+    if (this.scriptDone) this.post({ event: 'line', line: '', answer: stop });
+    else this.post({ event: 'stop', text: stop });
+    this.lit();
+  }
+
+  // -- the clock of the wall: a line `tick` for each, so it is in the record. Ticks that are late by much are left out.
+  tick(now) {
+    if (this.hertz === 0 || this.scriptDone) return;
+    if (this.at.tick === 0 || now - this.at.tick > 1000 * MOST_LATE_TICKS / this.hertz) this.at.tick = now;
+    for (; this.at.tick <= now; this.at.tick += 1000 / this.hertz) this.session.do('tick');
+  }
+
+  // -- the governor: how many turns may be made now
+  allowed(now) {
+    if (this.pace === 0 || this.scriptDone) return Infinity;
+    const passed = Math.min(50, now - this.at.budget);
+    const most = Math.floor(this.pace * passed / 1000);
+    if (most < 100) return 0;
+    this.at.budget = now;
+    return most;
+  }
+
+  // -- the lamps: how often each was lit in the slices since the last that were sent
+  sample() {
+    const regs = this.session.p11.regs();
+    this.lamps ??= { count: 0, address: new Array(18).fill(0), data: new Array(16).fill(0), user: 0, virtual: 0, busy: 0 };
+    const lamps = this.lamps;
+    lamps.count++;
+    for (let bit = 0; bit < 16; bit++) {
+      lamps.address[bit] += regs.pc >> bit & 1;
+      lamps.data[bit] += regs.general[0] >> bit & 1;
+    }
+    lamps.user += (regs.ps >> 14) === 3 ? 1 : 0;
+    lamps.virtual += regs.sr0 & 1;
+    lamps.busy += regs.mark === 'ready' ? 1 : 0;
+    lamps.regs = regs;
+  }
+
+  lit(now = performance.now(), isIdle = false) {
+    if (!this.session) return;
+    if (!this.lamps) this.sample();
+    const { turns } = this.session, ms = now - this.at.lamps;
+    const { run, keys } = this.session, rate = (turns - this.at.rate) / ms * 1000;
+    this.post({ event: 'lamps', ...this.lamps, isRunning: run !== null, isIdle, keys: keys.length, rate });
+    this.lamps = null;
+    this.at.lamps = now;
+    this.at.rate = turns;
+  }
+
+  // -- what the record has gained, for whoever keeps it: at once where something was done, else a few times a second
+  journal(isNow = true) {
+    const { record, steps, turns } = this.session, now = performance.now();
+    if (this.isQuiet || (!isNow && record.length === this.sent.lines && now - this.at.journal < JOURNAL_MS)) return;
+    if (record.length === this.sent.lines && turns === this.sent.turns) return;
+    this.at.journal = now;
+    this.post({ event: 'journal', from: this.sent.lines, lines: record.slice(this.sent.lines), steps, turns });
+    this.sent = { lines: record.length, steps, turns };
+  }
+
+  // -- a script: its lines one after another, each run to its end. Says whether something is left to do.
+  playOn() {
+    if (!this.scriptDone) return false;
+    const began = performance.now();
+    while (this.script.length > 0 && !this.session.run) {
+      if (performance.now() - began > 50) { this.wake(); return true; }
+      const line = this.script.pop(), answer = this.session.line(line);
+      if (!this.isQuiet && answer !== '') this.post({ event: 'line', line, answer, tape: tapeOf(this.session, line, answer) });
+    }
+    if (this.session.run) return true;
+    const done = this.scriptDone, { record, steps, turns } = this.session;
+    this.scriptDone = null;
+    if (this.isQuiet) this.sent = { lines: record.length, steps, turns };
+    this.isQuiet = false;
+    this.journal();
+    done();
+    return false;
+  }
+
+  play(text) {
+    this.script = text.split('\n').map((line) => line.replace(/\r$/, '')).filter((line) => !/^[ \t]*(#|$)/.test(line)).reverse();
+    return new Promise((done) => {
+      this.scriptDone = done;
+      this.wake();
+    });
+  }
+}
+
+// How many turns the next slice has, where one of so many took so long: twice as many at most, or half.
+function nextSlice(turns, took) {
+  const times = Math.max(0.5, Math.min(2, SLICE_MS / Math.max(took, 0.05)));
+  return Math.round(Math.max(1000, Math.min(5e6, turns * times)));
+}
+
+// The bytes that a line `load` was given, where it refused them as a tape.
+function tapeOf(session, line, answer) {
+  return answer.startsWith('? 9 ') ? session.p11.file(line.trim().split(/[ \t]+/)[1]) : undefined;
+}
+
+// What can be called. Each takes its arguments as an object.
+const CALLS = {
+  async open(engine, { module, kwords }) {
+    engine.session = null;
+    engine.compiled ??= await WebAssembly.compile(module);
+    // A module that has trapped isn't used again: each machine gets an instance of its own.
+    const instance = await WebAssembly.instantiate(engine.compiled, {});
+    engine.session = new Session(new P11(instance.exports, kwords, 1024));
+    engine.session.put('/dev/null', new Uint8Array(0));
+    engine.sent = { lines: 0, steps: 0, turns: 0 };
+    engine.at.rate = 0;
+    engine.scriptDone = null;
+    engine.isQuiet = false;
+    engine.lit();
+  },
+
+  line(engine, { line }) {
+    const wasRunning = engine.session.run !== null, answer = engine.session.line(line);
+    engine.journal();
+    engine.lit();
+    engine.wake();
+    return { answer, isRun: !wasRunning && engine.session.run !== null, tape: tapeOf(engine.session, line, answer) };
+  },
+
+  // What the drives show, and which files are mounted on them.
+  drives: (engine) => ({ device: engine.session.peek('device'), mounted: engine.session.mounted }),
+  changed: (engine, { drive }) => engine.session.peek(`changed ${drive}`),
+
+  talk(engine) {
+    engine.session.begin();
+    engine.wake();
+  },
+
+  keys(engine, { bytes }) {
+    engine.session.press(bytes);
+    engine.wake();
+  },
+
+  // Ends the run, and the script where one is played.
+  halt(engine) {
+    engine.script = [];
+    if (!engine.session.run) return;
+    clearTimeout(engine.timer);
+    engine.ended(engine.session.halt());
+    engine.session.keys = [];
+    engine.journal();
+    engine.wake();
+  },
+
+  put(engine, { name, bytes }) { engine.session.put(name, bytes); },
+  file: (engine, { name }) => engine.session.p11.file(name),
+  files: (engine) => [...engine.session.sizes].filter(([name]) => name !== '/dev/null'),
+  record: (engine) => engine.session.recordText(),
+  regs: (engine) => engine.session.p11.regs(),
+  memory: (engine) => engine.session.p11.x.memory.buffer.byteLength,
+
+  // Plays a script; or, quietly, a record: what was typed then is the result.
+  async play(engine, { text, isQuiet }) {
+    engine.isQuiet = isQuiet === true;
+    engine.kept = [];
+    await engine.play(text);
+    engine.lit();
+    return { typed: engine.kept, turns: engine.session.turns };
+  },
+
+  clock(engine, { hertz }) {
+    engine.hertz = hertz;
+    engine.at.tick = 0;
+    engine.wake();
+  },
+
+  pace(engine, { turns }) {
+    engine.pace = turns;
+    engine.wake();
+  },
+};
+
+const engine = new Engine((message) => postMessage(message));
+onmessage = async ({ data: { id, call, args } }) => {
+  try {
+    postMessage({ id, result: await engine.guard(() => CALLS[call](engine, args ?? {})) });
+  } catch (error) {
+    postMessage({ id, error: String(error.message ?? error) });
+  }
+};

@@ -1,0 +1,175 @@
+// The page: makes its parts, joins them, and opens the machine.
+'use strict';
+
+const $ = (selector) => document.querySelector(selector);
+const ENGINE = ['engine/calls.js', 'engine/session.js', 'engine/worker.js'];
+const NO_MEMORY64 = 'This browser has no WebAssembly with 64-bit memory, which the machine needs. Firefox 134, Chromium 133 and Chrome 133 have '
+  + 'it, and later ones: open the page in one of those.';
+
+class App {
+  constructor() {
+    this.screen = new Screen();
+    this.view = new View(this.screen, $('#screen'));
+    this.memory = $('#memory');
+    this.memory.append(...Array.from({ length: 31 }, (_, n) => new Option(`${4 * n + 4} thousand words`, 4 * n + 4)));
+    this.memory.value = '28';
+    this.isShowing = 0;
+  }
+
+  say(text) {
+    this.screen.write(Uint8Array.from(text.replace(/\n/g, '\r\n'), (c) => c.charCodeAt(0)));
+    this.view.speak(text);
+  }
+
+  note(text) { $('#note').textContent = text; }
+
+  // Something to choose from, until it is closed.
+  offer(text, choices) {
+    const box = $('#offer');
+    const close = () => { box.hidden = true; };
+    box.replaceChildren(text, ...[...choices, ['Close', () => {}]].map(([label, act]) => {
+      const button = document.createElement('button');
+      button.textContent = label;
+      button.onclick = () => { close(); act(); };
+      return button;
+    }).flatMap((button) => [' ', button]));
+    box.hidden = false;
+    return { close };
+  }
+
+  focus() { $('#keys').focus({ preventScroll: true }); }
+
+  async open() {
+    listen(this);
+    this.controls();
+    this.paint();
+    if (!Link.isSupported()) { this.say(NO_MEMORY64 + '\n'); this.note(NO_MEMORY64); return; }
+    const [module, boots, store, ...sources] = await Promise.all([
+      Shelf.bytes('p11.wasm'), Shelf.text('boots.json'), Store.open(), ...ENGINE.map((name) => Shelf.text(name))]);
+    Object.assign(this, { module, boots: JSON.parse(boots), store, sources });
+    store.onrefused = (why) => this.note(`The browser keeps nothing of this session (${why}); its record can be downloaded.`);
+    if (store.refused) store.onrefused(store.refused);
+    this.connect();
+    this.showBoots();
+    await this.begin();
+    this.focus();
+    document.documentElement.dataset.ready = 'yes';
+  }
+
+  // A new engine, and the parts that speak to it.
+  connect() {
+    this.link?.worker.terminate();
+    this.link = new Link(this.sources);
+    const { link } = this, command = (line, isSilent) => this.console.command(line, isSilent);
+    this.sessions ??= new Sessions(this);
+    this.console = new Console({
+      link, say: (text) => this.say(text), find: (name) => this.sessions.find(name),
+      onrun: (isRunning) => this.runs(isRunning), ondone: () => this.drives.show(), onerror: (error) => this.note(error.message),
+    });
+    const halt = () => this.console.halt(), run = () => this.console.begin();
+    const say = (text) => this.note(text), pick = (drive) => this.pick(drive);
+    this.panel ??= new Panel($('#panel'), { command, halt, run });
+    this.drives ??= new Drives($('#drives'), { command, say, pick });
+    this.panel.link = link;
+    this.drives.link = link;
+    link.on('typed', ({ bytes }) => this.typed(bytes));
+    link.on('stop', ({ text }) => this.console.stopped(text));
+    link.on('line', ({ line, answer, tape }) => this.console.answered(line, answer, tape));
+    link.on('lamps', (lamps) => this.lamps(lamps));
+    link.on('journal', (gained) => this.store.add(gained));
+    link.on('lost', ({ why }) => this.sessions.lost(why));
+  }
+
+  // What the address asks for, what was kept, or a new machine.
+  async begin() {
+    const wanted = new URLSearchParams(location.search).get('boot'), kept = wanted ? null : await this.store.kept();
+    if (kept && kept.session.turns + kept.lines.length > 0) { await this.sessions.resume(kept); return; }
+    if (kept) this.sessions.kwords = kept.session.kwords;
+    this.say('p11: a PDP-11/40. Type help, drop a file,\nor boot something by a button above.\n');
+    await this.sessions.fresh();
+    if (wanted) await this.sessions.boot(wanted);
+  }
+
+  typed(bytes) {
+    this.screen.write(bytes);
+    this.console.typed(bytes);
+    this.view.speak(String.fromCharCode(...bytes.slice(-400)));
+    const replies = this.screen.takeReplies();
+    if (replies.length > 0 && this.console.isRunning) this.link.ask('keys', { bytes: replies });
+  }
+
+  runs(isRunning) {
+    this.store?.note({ isTalking: isRunning });
+    clearInterval(this.isShowing);
+    if (isRunning) this.isShowing = setInterval(() => this.drives.show(), 1000);
+  }
+
+  lamps(lamps) {
+    this.panel.light(lamps);
+    const million = lamps.rate / 1e6, rate = lamps.isIdle ? 'waits' : `${million.toFixed(million < 1 ? 2 : 1)} million turns a second`;
+    $('#speed').textContent = lamps.isRunning ? rate + (lamps.keys > 0 ? `, ${lamps.keys} keys wait` : '') : '';
+  }
+
+  showBoots() {
+    $('#boots').replaceChildren(...this.boots.map(({ name, title, about }) => {
+      const button = document.createElement('button');
+      Object.assign(button, { textContent: title, title: about });
+      button.dataset.boot = name;
+      button.onclick = () => this.sessions.boot(name);
+      return button;
+    }).flatMap((button) => [button, ' ']));
+  }
+
+  setClock(hertz) {
+    $('#hertz').value = String(hertz);
+    this.link.ask('clock', { hertz });
+    this.store.note({ hertz });
+  }
+
+  setPace(turns) {
+    $('#pace').value = String(turns);
+    this.link.ask('pace', { turns });
+    this.store.note({ pace: turns });
+  }
+
+  controls() {
+    $('#fresh').onclick = () => this.sessions.fresh(+this.memory.value);
+    $('#before').onclick = () => this.sessions.before();
+    $('#hertz').onchange = ({ target }) => this.setClock(+target.value);
+    $('#pace').onchange = ({ target }) => this.setPace(+target.value);
+    $('#kind').onchange = ({ target }) => { this.screen.isVt52 = target.value === '52'; };
+    $('#load').onclick = () => this.pick();
+    $('#record').onclick = async () => downloadRecord('session.p11', await this.link.ask('record'));
+    $('#forget').onclick = async () => {
+      await this.store.forget();
+      await this.sessions.fresh();
+      this.note('All that this browser kept of sessions is forgotten.');
+    };
+    $('#theme').onclick = () => setFace(nextFace());
+    setFace(keptFace());
+    $('#agreed').textContent = globalThis.P11_AGREED ?? '';
+  }
+
+  paint() {
+    requestAnimationFrame(() => this.paint());
+    this.view.paint();
+    if (this.screen.bells === 0) return;
+    this.screen.bells = 0;
+    $('#screen').classList.add('bell');
+    setTimeout(() => $('#screen').classList.remove('bell'), 150);
+  }
+}
+
+// -- the face: as the system has it, or the one that was chosen
+function keptFace() { try { return localStorage.getItem('face') ?? ''; } catch { return ''; } }
+function nextFace() {
+  const face = document.documentElement.dataset.theme ?? (matchMedia('(prefers-color-scheme: dark)').matches ? 'dark' : 'light');
+  return face === 'dark' ? 'light' : 'dark';
+}
+function setFace(face) {
+  if (face) document.documentElement.dataset.theme = face;
+  try { if (face) localStorage.setItem('face', face); } catch { /* the browser keeps nothing: then the face is not kept */ }
+}
+
+const app = new App();
+app.open().catch((error) => app.note(`The page can't open: ${error.message}.`));

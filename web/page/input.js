@@ -1,0 +1,86 @@
+// Keys, pasting and dropping: what the browser gives, handed to the console, the machine or the drives.
+//   listen(app)
+'use strict';
+
+function listen(app) {
+  const keys = document.querySelector('#keys'), screen = document.querySelector('#screen');
+  const isTerminal = (target) => target === keys || target === document.body;
+  const feed = (codes, key) => {
+    app.view.follow();
+    app.console.feed(codes, key);
+  };
+
+  addEventListener('keydown', (event) => {
+    if (event.key === 'F6') { event.preventDefault(); nextPart(event.shiftKey ? -1 : 1); return; }
+    if (!isTerminal(event.target) || event.isComposing || isBrowsers(event)) return;
+    const codes = keysOf(event, app.screen);
+    if (!codes) return;
+    event.preventDefault();
+    feed(codes, event.key);
+  });
+
+  // A keyboard on the glass gives text and no keys; a blank stands in the field, so that it can be taken back.
+  keys.value = ' ';
+  keys.addEventListener('input', (event) => {
+    if (event.isComposing) return;
+    if (event.inputType === 'deleteContentBackward') feed([127]);
+    else feed(keysOfText(event.data ?? (event.inputType === 'insertLineBreak' ? '\n' : '')));
+    keys.value = ' ';
+  });
+
+  addEventListener('paste', (event) => {
+    if (!isTerminal(event.target)) return;
+    event.preventDefault();
+    feed(keysOfText(event.clipboardData.getData('text')));
+  });
+
+  screen.addEventListener('mouseup', () => { if (getSelection().isCollapsed) app.focus(); });
+  for (const button of document.querySelectorAll('[data-code]')) {
+    button.onclick = () => { feed([+button.dataset.code]); app.focus(); };
+  }
+  listenForFiles(app);
+}
+
+// What stays the browser's: copying what is selected, and pasting.
+function isBrowsers(event) {
+  if (!event.ctrlKey && !event.metaKey) return false;
+  const key = event.key.toLowerCase();
+  return key === 'v' || ((key === 'c' || key === 'insert') && !getSelection().isCollapsed);
+}
+
+// The parts of the page, one after another.
+function nextPart(step) {
+  const parts = [...document.querySelectorAll('[data-part]')];
+  const now = parts.findIndex((part) => part.contains(document.activeElement));
+  const part = parts[(now + step + parts.length) % parts.length];
+  (part.querySelector('#keys') ?? part.querySelector('[tabindex="0"], button:not([hidden]), select') ?? part).focus();
+}
+
+function listenForFiles(app) {
+  const picked = document.querySelector('#picked');
+  let drive;
+  app.pick = (number) => {
+    drive = number;
+    picked.click();
+  };
+  picked.onchange = async () => {
+    const files = [...picked.files];
+    picked.value = '';
+    for (const file of files) await app.sessions.take(file, drive);
+  };
+  const rowOf = (event) => (event.target instanceof Element ? event.target.closest('li[data-drive]') : null);
+  const mark = (row) => { for (const it of document.querySelectorAll('li[data-drive]')) it.classList.toggle('over', it === row); };
+  addEventListener('dragover', (event) => {
+    event.preventDefault();
+    document.body.classList.add('drop');
+    mark(rowOf(event));
+  });
+  addEventListener('dragleave', () => { document.body.classList.remove('drop'); mark(null); });
+  addEventListener('drop', async (event) => {
+    event.preventDefault();
+    document.body.classList.remove('drop');
+    mark(null);
+    const row = rowOf(event), to = row ? +row.dataset.drive : undefined;
+    for (const file of [...event.dataTransfer.files]) await app.sessions.take(file, to);
+  });
+}
