@@ -1,9 +1,9 @@
 """The definitions of crates/*/specs as docs/believe counts them and docs/book shows them, and those that the headline
-reaches.
+reaches. A module for these two scripts; it isn't run by itself.
 
-It begins at the names in the clauses of `play` and of `session`, and at the record `State` that the model of a machine
-is; then it goes to every definition that one of these names, by the `use` lines of its file, and so on. Types that are
-declared in src/*.rt and that definitions name are read too.
+The headline reaches the names in the clauses of `play` and of `session`, the record `State` that the model of a machine
+is, every definition that one of these names by the `use` lines of its file, and so on. Types that are declared in
+src/*.rt and that definitions name are read too.
 """
 import collections
 import glob
@@ -16,6 +16,7 @@ USE = re.compile(r"use\s+Rattle\.([\w.]+?)(?:\.\{([^}]*)\}|\s+as\s+(\w+)|(?=[\s;
 HEAD = re.compile(r"^\s*(?:abbrev\s+|unfoldable\s+|pub\s+)+(record\s+)?(◌[^\s◌]+◌|[A-Za-z_][\w']*)")
 PRIVATE = re.compile(r"^([A-Za-z_][\w']*)\s*:")
 FUNCTION = re.compile(r"^\s*(pub(?:\(crate\))? )?(?:unsafe )?fn (\w+)")
+CLAUSE = re.compile(r"\b(?:ensures|requires)\b\s*(\w*)(.*?)(?=\b(?:ensures|requires)\b|\Z)", re.S)
 TYPE = re.compile(r"^pub(?:\(crate\))? (?:struct|enum) (\w+)")
 Key = collections.namedtuple("Key", "crate module name")
 
@@ -36,6 +37,11 @@ def imports(text):
     return names, modules
 
 
+def ghost_scope(text):
+    """What the names in the clauses of a file of the program mean."""
+    return {}, *imports("\n".join("use " + use for use in re.findall(r"ghost use ([^;]*);", text)))
+
+
 def comment_at_end(lines):
     """The lines after the last empty one."""
     while "" in lines:
@@ -47,12 +53,12 @@ class Sources:
     """All definitions, and the types that are declared in src.
 
     `lines` has the lines of each definition that count: without comments. `texts` has a definition as its file has it:
-    the comment right above it, its lines and what stands between them. `types` and `type_texts` are the same for the
-    declared types, without the lines of attributes.
+    the comment right above it, its lines and what stands between them. `types` counts the lines of the declared types,
+    `texts` has them too, without the lines of attributes, and `paths` has the file of each definition and type.
     """
 
     def __init__(self):
-        self.lines, self.texts, self.scopes, self.types, self.type_texts = {}, {}, {}, {}, {}
+        self.lines, self.texts, self.paths, self.scopes, self.types = {}, {}, {}, {}, {}
         for path in sorted(glob.glob(os.path.join(CRATES, "*", "specs", "**", "*.antt"), recursive=True)):
             self.read_definitions(path)
         for path in sorted(glob.glob(os.path.join(CRATES, "*", "src", "**", "*.rt"), recursive=True)):
@@ -84,6 +90,7 @@ class Sources:
                 local[name] = now
                 self.lines[now], waiting = waiting, []
                 self.texts[now], above = comment_at_end(above), []
+                self.paths[now] = os.path.relpath(path, CRATES)
             elif indent == 0:
                 record_at = None
             if now is not None:
@@ -103,10 +110,11 @@ class Sources:
                 if found:
                     name = ("type", crate_of(path), found.group(1))
                     self.types.setdefault(name, 0)
-                    self.type_texts.setdefault(name, above)
+                    self.texts.setdefault(name, above)
+                    self.paths.setdefault(name, os.path.relpath(path, CRATES))
                 above = above + [line.rstrip()] if text.startswith("///") else above if text.startswith("#[") else []
                 if name and not text.startswith("#["):
-                    self.type_texts[name].append(line.rstrip())
+                    self.texts[name].append(line.rstrip())
                 if name and text and not text.startswith(("//", "#[")):
                     self.types[name] += 1
                 if name and (text == "}" or text.endswith((";", "{}"))) and (found or not line.startswith(" ")):
@@ -127,23 +135,26 @@ class Sources:
         """What a text names."""
         return set(self.meant(text, scope).values())
 
+    def of_word(self, word, scope):
+        """The part of a word that stands for a definition or declared type, and which; None if it is another's."""
+        local, names, modules = scope
+        head, _, rest = word.partition(".")
+        if head in local:
+            return head, local[head]
+        if head in names:
+            return head, self.at(*names[head])
+        if head in modules and rest:
+            name = rest.split(".")[0]
+            return f"{head}.{name}", self.at(modules[head], name)
+        return word, None
+
     def meant(self, text, scope):
         """The definition or declared type that each name in a text stands for, as the text has the name."""
-        local, names, modules = scope
-        found = {}
-        for word in NAME.findall(text):
-            head, _, rest = word.partition(".")
-            if head in local:
-                found[head] = local[head]
-            elif head in names:
-                found[head] = self.at(*names[head])
-            elif head in modules and rest:
-                name = rest.split(".")[0]
-                found[f"{head}.{name}"] = self.at(modules[head], name)
-        for word in [*local, *names]:
+        found = dict(self.of_word(word, scope) for word in NAME.findall(text))
+        for word in [*scope[0], *scope[1]]:
             sign = word.strip("◌")
             if word.startswith("◌") and (sign in text or sign == ">>=" and re.search(r"\bdo\b", text)):
-                found[word] = local[word] if word in local else self.at(*names[word])
+                found[word] = self.of_word(word, scope)[1]
         return {word: key for word, key in found.items() if key is not None}
 
     def reached(self, begin):
@@ -156,12 +167,12 @@ class Sources:
                     todo += self.named("\n".join(self.lines[key]), self.scopes[key.crate, key.module])
         return done
 
-    def clauses(self, path, wanted):
-        """What the clauses of the functions of a file name, where `wanted` of name and visibility holds."""
+    def clauses(self, path, wanted, without=()):
+        """What the clauses of the functions of a file name, where `wanted` of name and visibility holds, but for the
+        clauses of the names in `without`."""
         with open(path, encoding="utf-8") as file:
             text = file.read()
-        ghost = "\n".join("use " + use for use in re.findall(r"ghost use ([^;]*);", text))
-        scope, found, head, clause = ({}, *imports(ghost)), set(), None, []
+        scope, found, head, clause = ghost_scope(text), set(), None, []
         for line in re.sub(r"//.*", "", text).split("\n"):
             head = FUNCTION.match(line) or head
             if head is None:
@@ -171,9 +182,32 @@ class Sources:
                 clause.append(line)
             if line.strip() in ("{", "{}") or line.endswith((";", "{")) and not clause:
                 if clause and wanted(head.group(2), head.group(1) or ""):
-                    found |= self.named("\n".join(clause), scope)
+                    for name, said in CLAUSE.findall("\n".join(clause)):
+                        found |= set() if name in without else self.named(said, scope)
                 head, clause = None, []
         return found
+
+    def contract(self, crate, name):
+        """A public call of a crate: its file, its text from the first line to its body, and what its names mean."""
+        for path in sorted(glob.glob(os.path.join(CRATES, crate, "src", "**", "*.rt"), recursive=True)):
+            with open(path, encoding="utf-8") as file:
+                text = file.read()
+            found = re.search(r"^pub fn %s\b.*?(?=^\{)" % re.escape(name), text, re.M | re.S)
+            if found:
+                return os.path.relpath(path, CRATES), found.group(0).rstrip(), ghost_scope(text)
+        return None
+
+    def contracted(self):
+        """The names of all functions with a clause."""
+        names = set()
+
+        def note(name, _):
+            names.add(name)
+            return False
+
+        for path in glob.glob(os.path.join(CRATES, "*", "src", "**", "*.rt"), recursive=True):
+            self.clauses(path, note)
+        return names
 
     def contracts(self, wanted):
         """What the clauses of all functions name, and what those definitions name."""
@@ -190,14 +224,14 @@ def module_of(path):
     return ".".join(os.path.splitext(os.path.relpath(path, CRATES))[0].split(os.sep)[2:])
 
 
-def by_play(sources):
-    """What `play` reaches, with the record of a machine's state."""
+def by_play(sources, without=()):
+    """What `play` reaches, but for its clauses of the names in `without`, with the record of a machine's state."""
     path = os.path.join(CRATES, "p11_panel", "src", "playing.rt")
     state = {Key("p11_cpu", "State", "State")}
-    return sources.reached(state | sources.clauses(path, lambda name, _: name == "play"))
+    return sources.reached(state | sources.clauses(path, lambda name, _: name == "play", without))
 
 
-def by_headline(sources):
-    """What `play` and `session` reach."""
+def by_headline(sources, without=()):
+    """What `play` and `session` reach, `play` but for its clauses of the names in `without`."""
     path = os.path.join(CRATES, "p11_panel", "src", "script.rt")
-    return by_play(sources) | sources.reached(sources.clauses(path, lambda name, _: name == "session"))
+    return by_play(sources, without) | sources.reached(sources.clauses(path, lambda name, _: name == "session"))
