@@ -1,23 +1,28 @@
-# make            proves and builds the program p11, where it isn't built
-# make install    puts it, its manual page and the examples below PREFIX (/usr/local), or below DESTDIR and then PREFIX
-# make NAME       proves the crate NAME, and before it what it stands on
+# make            proves and builds both programs, p11 and its terminal, where they aren't proved from these sources
+# make proved     the same
+# make install    puts them, the library for C, the manual pages and the examples below PREFIX (/usr/local), or below DESTDIR
+#                 and then PREFIX; what isn't proved is proved first
+# make uninstall  takes away just that
+# make dist       makes in dist/ what a release has, of what is proved and what the gate passed on (tools/dist/make)
+# make NAME       proves and builds the crate NAME, and before it what it stands on
 #
 # Which crate stands on which is read off crates.txt, whose lines are rules of make. Crates that don't stand on each other
-# are proved side by side (make -j), each in a copy of the repository (tools/apart). With DONE, a file to list them in, and
-# OF, a number, what is said has their number.
+# are proved side by side (make -j).
 
 PREFIX ?= /usr/local
-SHARE := $(DESTDIR)$(PREFIX)/share
 
-.PHONY: all install
-all:
-	@./build p11_run
+.PHONY: all proved install uninstall dist
+all proved:
+	@tools/prove p11_run p11_terminal
 
-install: all
-	install -d '$(DESTDIR)$(PREFIX)/bin' '$(SHARE)/man/man1' '$(SHARE)/doc/p11/examples'
-	install crates/p11_run/out/p11_run '$(DESTDIR)$(PREFIX)/bin/p11'
-	install -m 644 docs/p11.1 '$(SHARE)/man/man1'
-	cp examples/* '$(SHARE)/doc/p11/examples'
+install:
+	@tools/install '$(PREFIX)' '$(DESTDIR)'
+
+uninstall:
+	@tools/install --remove '$(PREFIX)' '$(DESTDIR)'
+
+dist:
+	@tools/dist/make
 
 include crates.txt
 
@@ -32,14 +37,5 @@ verb = $(if $(filter $@,$(programs)),run -- --help,lib $(if $(filter $@,$(large)
 behind = $(if $(filter $@,$(aside)),nice -n 10)
 
 .PHONY: $(crates) $(kit)
-.ONESHELL:
 $(crates):
-	@log=$$PWD/crates/$@/out/build.log
-	mkdir -p "$${log%/*}" || exit
-	began=$$(date +%s)
-	if ! $(behind) tools/apart $@ rt $(verb) >"$$log" 2>&1 </dev/null; then
-	    echo "p11: $@ can't be proved or built; $$log says why" >&2
-	    exit 1
-	fi
-	number=$(if $(DONE),"$$(echo $@ >>'$(DONE)' && wc -l <'$(DONE)') of $(OF)")
-	echo "p11: $$number $@ $$(($$(date +%s) - began)) s" >&2
+	@DONE='$(DONE)' OF='$(OF)' $(behind) tools/prove-crate $@ $(verb)
