@@ -13,9 +13,6 @@ from definitions import CRATES, NAME, Key, ghost_scope, without_comment
 TOP = os.path.join(DOCS, "..")
 MOST_BYTES = {"BOOK.md": 3000, "READING.md": 8000, "book.d": 85000}
 IO_PAGE = 0o760000
-# What HardwareState holds of the host's memory. No definition of a turn asks it, and it is the one definition of a view that
-# the headline reaches.
-HOST_MEMORY = Key("p11_unibus", "Kept.View", "Prepared")
 # The page with the promises, each by the clause of a call.
 THEOREM = os.path.join("book.d", "00-promises.md")
 
@@ -61,7 +58,7 @@ def kinds_of_files(book):
     crates = {key.crate for key in book.reached if isinstance(key, Key)}
     for key in sorted(book.sources.lines):
         aside = key.module.split(".")[0] in ("Calls", "Kept", "Laws")
-        if key.crate in crates and key != HOST_MEMORY and aside == (key in book.reached):
+        if key.crate in crates and aside == (key in book.reached):
             yield f"in a file of the wrong kind: {name_of(key)}"
 
 

@@ -1,5 +1,6 @@
 pub mod Bytes
 pub mod State
+pub mod HostMemory
 pub mod Registers
 pub mod Due
 pub mod Bus

@@ -1,5 +1,5 @@
 -- What contracts see of a machine.
-use Rattle.p11_unibus.specs.Kept.View.{Prepared}
+use Rattle.p11_unibus.specs.HostMemory.{Prepared}
 use Rattle.p11_cpu.specs.State.{State}
 
 -- what contracts see of a machine: its state, and beside it the memory that was found for the acts of its devices

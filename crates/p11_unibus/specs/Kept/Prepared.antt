@@ -1,6 +1,6 @@
 -- The memory that was found for the acts of a turn.
 use Rattle.std.specs.Prelude.{ℕ, List, ◌≡◌, ◌<◌, true}
-use Rattle.p11_unibus.specs.Kept.View.{Prepared}
+use Rattle.p11_unibus.specs.HostMemory.{Prepared}
 use Rattle.p11_unibus.specs.Prepared.{types_in}
 use Rattle.p11_unibus.specs.State.{BusState}
 use Rattle.p11_rk11.specs.Kept.View as disks

@@ -1,12 +1,7 @@
 -- What contracts see of a bus.
 use Rattle.std.specs.Prelude.{ℕ, List}
+use Rattle.p11_unibus.specs.HostMemory.{Prepared}
 use Rattle.p11_unibus.specs.State.{BusState}
-
--- the memory that was found for the acts of a turn: for each drive the sectors that may be written, and room for so
--- many typed characters
-pub record Prepared : Type 0 where
-  pub sectors : List (List ℕ)
-  pub room : ℕ
 
 -- What contracts see of a bus: all that a program or the operator may see of it, and beside it what is prepared, and
 -- the addresses of the words of memory that were written since that was last asked.
