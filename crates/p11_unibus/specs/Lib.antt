@@ -1,3 +1,4 @@
+-- The Unibus with what stands on it: memory, the devices, and the switch register.
 pub mod Bytes
 pub mod State
 pub mod HostMemory

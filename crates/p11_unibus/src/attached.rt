@@ -1,3 +1,4 @@
+//! The devices that are attached to the bus.
 use p11_dl11::Dl11;
 use p11_kw11::Kw11;
 use p11_rk11::Rk11;

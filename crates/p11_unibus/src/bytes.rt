@@ -1,3 +1,4 @@
+//! Bytes of words, and the one fault of a reference on the bus.
 ghost use Rattle.std.specs.Prelude.{◌≡◌};
 ghost use Rattle.p11_unibus.specs.Bytes.{byte_at, even, with_byte};
 

@@ -1,3 +1,4 @@
+//! What the definitions of the bus say together, in every state: each is a function that does nothing.
 ghost use Rattle.std.specs.Prelude.{◌≡◌, ◌↔◌, ◌%◌, ◌≤◌, ◌<◌, ℕ, false, Some, None};
 ghost use Rattle.p11_unibus.specs.Acts.{bus_after_turn, is_any_due};
 ghost use Rattle.p11_rk11.specs.Acts.{stores_of};

@@ -1,3 +1,4 @@
+//! References of a program, in words and bytes, by bus address.
 ghost use Rattle.std.specs.Prelude.{◌≡◌, ◌==◌, ◌≤◌, ◌<◌, ◌^◌, length};
 ghost use Rattle.p11_unibus.specs.Bus.{transmitter_high_byte};
 ghost use Rattle.p11_unibus.specs.Calls.References.{read_byte_of, read_word_of, write_byte_of, write_word_of};

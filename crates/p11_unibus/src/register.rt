@@ -1,3 +1,4 @@
+//! The registers on the I/O page and their bus addresses.
 ghost use Rattle.std.specs.Prelude.{◌≡◌};
 ghost use Rattle.p11_unibus.specs.Registers.{register_at};
 

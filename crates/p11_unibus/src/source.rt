@@ -1,3 +1,4 @@
+//! What requests interrupts: vector and level of each source.
 ghost use Rattle.std.specs.Prelude.{◌≡◌, Some};
 ghost use Rattle.p11_psw.specs.Calls.Levels.{vector_level};
 ghost use Rattle.p11_unibus.specs.Requests.{source_level, source_vector};

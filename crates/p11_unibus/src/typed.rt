@@ -1,3 +1,4 @@
+//! The characters that were typed and not yet taken.
 ghost use Rattle.std.specs.Prelude.{◌≡◌, ◌<◌, [], true, false, is_some, OnOk, IsOk};
 ghost use Rattle.p11_unibus.specs.Acts.{with_typed};
 
