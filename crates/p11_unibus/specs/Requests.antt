@@ -1,6 +1,5 @@
--- Requests for interrupts: the line clock at level 6, the disk controller at level 5, receiver and transmitter at
--- level 4.
-use Rattle.std.specs.Prelude.{Bool, ◌&&◌, Option, Some, None, nat_lt, if◌then◌else◌}
+-- Requests for interrupts: four sources, and in their table how each interrupts.
+use Rattle.std.specs.Prelude.{Bool, ◌&&◌, [], ◌∷◌, Option, Some, None, find, nat_lt}
 use Rattle.p11_psw.specs.Fields.{priority_number}
 use Rattle.p11_psw.specs.declared.priority.Priority.{Priority}
 use Rattle.p11_psw.specs.declared.priority.Priority.TheVariants.{Level4, Level5, Level6}
@@ -14,38 +13,27 @@ use Rattle.p11_unibus.specs.declared.source.Source.{Source}
 use Rattle.p11_unibus.specs.declared.source.Source.TheVariants.{Clock, Disk, Receiver, Transmitter}
 use Rattle.p11_unibus.specs.State.{BusState}
 
-abbrev pub source_vector : Source → Vector
-source_vector Clock = vectors.Clock
-source_vector Disk = vectors.Disk
-source_vector Receiver = vectors.Receiver
-source_vector Transmitter = vectors.Transmitter
+-- how a source interrupts: through which vector, at which level, and whether it requests
+pub record Interrupt : Type 0 where
+  pub vector : Vector
+  pub level : Priority
+  pub requests : BusState → Bool
 
-abbrev pub source_level : Source → Priority
-source_level Clock = Level6
-source_level Disk = Level5
-source_level Receiver = Level4
-source_level Transmitter = Level4
+-- the table of the sources
+abbrev pub row : Source → Interrupt
+row Clock = record { vector = vectors.Clock; level = Level6; requests = (λ b. b.clock.request) }
+row Disk = record { vector = vectors.Disk; level = Level5; requests = (λ b. b.disk.registers.request) }
+row Receiver = record { vector = vectors.Receiver; level = Level4; requests = (λ b. b.line.receiver.request) }
+row Transmitter = record { vector = vectors.Transmitter; level = Level4; requests = (λ b. b.line.transmitter.request) }
 
--- whether a source requests
-abbrev pub requests : Source → BusState → Bool
-requests Clock b = b.clock.request
-requests Disk b = b.disk.registers.request
-requests Receiver b = b.line.receiver.request
-requests Transmitter b = b.line.transmitter.request
-
--- whether it requests at a level above a priority
+-- whether a source requests at a level above a priority
 abbrev pub stands : Source → Priority → BusState → Bool
 stands source priority b =
-    requests source b && nat_lt (priority_number priority) (priority_number (source_level source))
+    (row source).requests b && nat_lt (priority_number priority) (priority_number (row source).level)
 
 -- the source of the highest request above a priority; of two at one level the receiver comes first
 unfoldable pub highest_request : Priority → BusState → Option Source
-highest_request priority b =
-    if stands Clock priority b then Some Clock
-    else (if stands Disk priority b then Some Disk
-    else (if stands Receiver priority b then Some Receiver
-    else (if stands Transmitter priority b then Some Transmitter
-    else None)))
+highest_request priority b = find (λ source. stands source priority b) (Clock ∷ Disk ∷ Receiver ∷ Transmitter ∷ [])
 
 -- the bus once the request of a source is dropped
 unfoldable pub bus_after_service : Source → BusState → BusState
@@ -55,7 +43,7 @@ bus_after_service Receiver b = record b { line = line_after_service sections.Rec
 bus_after_service Transmitter b = record b { line = line_after_service sections.Transmitter b.line }
 
 abbrev pub granted : Option Source → BusState → BusState × Option Vector
-granted (Some source) b = (bus_after_service source b, Some (source_vector source))
+granted (Some source) b = (bus_after_service source b, Some (row source).vector)
 granted None b = (b, None)
 
 -- the highest request above a priority is granted, which drops it: the vector through which it interrupts

@@ -1,6 +1,6 @@
 //! Requests for interrupts on the bus, and their grants.
 ghost use Rattle.std.specs.Prelude.{◌≡◌, true, None};
-ghost use Rattle.p11_unibus.specs.Requests.{bus_after_service, grant_of, highest_request, requests, stands};
+ghost use Rattle.p11_unibus.specs.Requests.{bus_after_service, grant_of, highest_request, row, stands};
 
 use crate::due::look_ahead;
 use crate::source::Source;
@@ -13,7 +13,7 @@ impl<A: Allocator> Unibus<A> {
     /// Whether a source requests an interrupt.
     #[inline(always)]
     fn requests(&self, source: Source) -> bool
-        ensures { result ≡ requests source self.now.visible }
+        ensures { result ≡ (row source).requests self.now.visible }
     {
         let devices = &*self.devices;
         match source {

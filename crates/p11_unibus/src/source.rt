@@ -1,7 +1,7 @@
 //! What requests interrupts: vector and level of each source.
 ghost use Rattle.std.specs.Prelude.{◌≡◌, Some};
 ghost use Rattle.p11_psw.specs.Calls.Levels.{vector_level};
-ghost use Rattle.p11_unibus.specs.Requests.{source_level, source_vector};
+ghost use Rattle.p11_unibus.specs.Requests.{row};
 
 use p11_psw::{Priority, Vector};
 
@@ -21,7 +21,7 @@ pub enum Source {
 impl Source {
     /// The vector through which it interrupts.
     pub fn vector(self) -> Vector
-        ensures { result ≡ source_vector self }
+        ensures { result ≡ (row self).vector }
     {
         match self {
             Source::Clock => Vector::Clock,
@@ -33,8 +33,8 @@ impl Source {
 
     /// The level at which it interrupts, which is that of its vector.
     pub fn level(self) -> Priority
-        ensures level { result ≡ source_level self }
-        ensures vector { vector_level (source_vector self) ≡ Some result }
+        ensures level { result ≡ (row self).level }
+        ensures vector { vector_level (row self).vector ≡ Some result }
     {
         match self {
             Source::Clock => Priority::Level6,

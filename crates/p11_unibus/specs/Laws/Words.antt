@@ -6,7 +6,7 @@ use Rattle.p11_rk11.specs.Memory.{has_word}
 use Rattle.p11_unibus.specs.State.{BusState}
 use Rattle.p11_unibus.specs.Bus.{see, change}
 use Rattle.p11_unibus.specs.declared.source.Source.{Source}
-use Rattle.p11_unibus.specs.Requests.{highest_request, source_level, stands}
+use Rattle.p11_unibus.specs.Requests.{highest_request, row, stands}
 
 -- a word written at an address of memory is the word that then shows there
 abbrev pub ShowsThere : ℕ → ℕ → ℕ → Type 0
@@ -24,4 +24,4 @@ abbrev pub GrantsNoneLower : Source → Priority → Type 0
 GrantsNoneLower source priority =
     (b : BusState) → stands source priority b ≡ true →
     IsSomeAnd (highest_request priority b)
-    (λ found. priority_number (source_level source) ≤ priority_number (source_level found))
+    (λ found. priority_number (row source).level ≤ priority_number (row found).level)
