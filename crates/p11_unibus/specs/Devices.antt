@@ -1,5 +1,5 @@
 -- What the operator is shown of the devices, without effect.
-use Rattle.std.specs.Prelude.{ℕ, List, Option, Some, None, length, map}
+use Rattle.std.specs.Prelude.{ℕ, List, Option, length, map, option_map}
 use Rattle.std.specs.List.{range_with_len}
 use Rattle.p11_kw11.specs.LineClock.{clock_word}
 use Rattle.p11_dl11.specs.LineEvents.{line_word}
@@ -26,20 +26,19 @@ disk_registers turn s =
       transfer_due = s.registers.transfer;
     }
 
--- what is mounted on a drive, if a pack is
-abbrev pub drive_shown : Option MountedDrive → Option DriveShown
-drive_shown None = None
-drive_shown (Some drive) =
-    Some (record {
+-- the pack that is mounted on a drive, and where its heads are
+abbrev pub drive_shown : MountedDrive → DriveShown
+drive_shown drive =
+    record {
       protected = drive.contents.protected;
       cylinder = drive.cylinder;
       changed = length drive.contents.changed;
       due = seek_turn drive.seek;
-    })
+    }
 
--- the drives by number
+-- the drives by number, and none where no pack is mounted
 unfoldable pub drives_shown : Rk11State → List (Option DriveShown)
-drives_shown s = map (λ n. drive_shown (drive_of s n)) (range_with_len 0 drive_count)
+drives_shown s = map (λ n. option_map drive_shown (drive_of s n)) (range_with_len 0 drive_count)
 
 -- asked between this turn and the next
 unfoldable pub devices_of : ℕ → BusState → BusDevices

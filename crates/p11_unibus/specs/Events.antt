@@ -1,7 +1,6 @@
 -- What the operator and INIT do to the devices.
 use Rattle.std.specs.Prelude.{ℕ, [], Result}
 use Rattle.p11_kw11.specs.LineClock.{clock_after_init, clock_after_period, clock_after_tick}
-use Rattle.p11_dl11.specs.LineState.{LineState}
 use Rattle.p11_dl11.specs.LineEvents.{line_after_init, line_after_key}
 use Rattle.p11_dl11.specs.declared.line.KeysFull.{KeysFull}
 use Rattle.p11_overlay.specs.Drive.{Contents}
@@ -15,12 +14,9 @@ unfoldable pub bus_after_init : BusState → BusState
 bus_after_init b =
     record b { clock = clock_after_init b.clock; line = line_after_init b.line; disk = disk_after_init b.disk }
 
-abbrev pub with_line : BusState → LineState × Result (Unit {0}) KeysFull → BusState × Result (Unit {0}) KeysFull
-with_line b (l, outcome) = (record b { line = l }, outcome)
-
 -- a key is pressed, which is refused where as many wait as may
 unfoldable pub bus_after_key : ℕ → BusState → BusState × Result (Unit {0}) KeysFull
-bus_after_key key b = with_line b (line_after_key key b.line)
+bus_after_key key b = let after = line_after_key key b.line in (record b { line = after.0 }, after.1)
 
 -- the line ticks
 unfoldable pub bus_after_tick : BusState → BusState

@@ -1,5 +1,5 @@
 //! What the operator is shown of the devices on the bus.
-ghost use Rattle.std.specs.Prelude.{◌≡◌, ◌<◌, ◌≤◌, ◌^◌};
+ghost use Rattle.std.specs.Prelude.{◌≡◌, ◌<◌, ◌≤◌, ◌^◌, option_map};
 ghost use Rattle.p11_rk11.specs.State.{drive_count, drive_of};
 ghost use Rattle.p11_unibus.specs.Devices.{devices_of, disk_registers, drive_shown, drives_shown};
 
@@ -96,7 +96,7 @@ impl<A: Allocator> Unibus<A> {
     /// What the operator is shown of a drive.
     fn drive_shown(&self, n: usize) -> Option<DriveShown>
         requires { n < drive_count }
-        ensures { result ≡ drive_shown (drive_of self.now.visible.disk n) }
+        ensures { result ≡ option_map drive_shown (drive_of self.now.visible.disk n) }
     {
         let disk = &self.devices.disk;
         match disk.drive(n) {
