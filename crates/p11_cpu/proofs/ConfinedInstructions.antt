@@ -1,42 +1,155 @@
 -- Every instruction of a user program keeps to what such a program may change, as long as it meets no trap.
-use Rattle.std.proofs.Common.{◌*◌, ℕ, false, cond, sym, subst}
+use Rattle.std.proofs.Common.{◌≡◌, ◌∙◌, ℕ, true, refl, ◌*◌, false, cond, sym, subst}
+use Rattle.p11_alu.specs.declared.codes.Codes.{Codes}
+use Rattle.p11_alu.specs.declared.pair.Pair.{Pair}
+use Rattle.p11_alu.specs.declared.quotient.Quotient.{Quotient}
+use Rattle.p11_decode.specs.declared.op.Condition.{Condition}
+use Rattle.p11_decode.specs.declared.operand.Register.TheVariants.{R0, R1, R2, R3, R4, R5, Sp, Pc}
+use Rattle.p11_psw.specs.declared.mode.Mode.{Mode}
+use Rattle.p11_psw.specs.declared.mode.Mode.TheVariants.{Kernel, Mode01, Mode10, User}
+use Rattle.p11_psw.specs.declared.zones.Zone.{Zone}
+use Rattle.p11_psw.specs.declared.zones.Zone.TheVariants.{Clear, Yellow, Red}
+use Rattle.p11_cpu.specs.declared.registers.Registers.{Registers}
+use Rattle.p11_cpu.specs.ExtendedInstructions.{quotient_stored}
+use Rattle.p11_cpu.specs.ProcessorControl.{resumed, returned, waiting, halt_instruction, halted, initialized, is_kernel, named_codes_of, reserved, reset, reset_in_kernel, trap_vector}
+use Rattle.p11_cpu.specs.ProgramControl.{branched, branch_address, counted_back, is_taken}
+use Rattle.p11_cpu.specs.Registers.{check_stack_limit, codes_of, conclude, odd_of, register_of, set_codes, set_codes_of, set_pair_of, set_previous_register_of, set_register_of, step_down, step_up, with_register, with_stack_pointer, zone_in, get, pair_of_registers, set}
+use Rattle.p11_cpu.specs.State.{HardwareState, Processor}
+use Rattle.p11_cpu.specs.Words.{minus, plus, sign_extended, width_of}
+use Rattle.p11_cpu.proofs.Confined.{IfGives, Kept, SameProcessor, Within, either_within, change_kept, either_kept, give_kept, look_kept, then_kept}
 use Rattle.p11_alu.specs.CountedShifts.{ash_of, ashc_of}
 use Rattle.p11_alu.specs.Numbers.{val}
 use Rattle.p11_alu.specs.Products.{div_of, mul_of}
 use Rattle.p11_alu.specs.Results.{logic_codes}
 use Rattle.p11_decode.specs.declared.op.Op.{Op}
 use Rattle.p11_decode.specs.declared.op.Op.TheVariants as ops
-use Rattle.p11_decode.specs.declared.groups.CompareOp.{CompareOp}
-use Rattle.p11_decode.specs.declared.groups.ModifyOp.{ModifyOp}
-use Rattle.p11_decode.specs.declared.groups.SingleOp.{SingleOp}
-use Rattle.p11_decode.specs.declared.groups.StoreOnlyOp.{StoreOnlyOp}
-use Rattle.p11_decode.specs.declared.op.Condition.{Condition}
 use Rattle.p11_decode.specs.declared.operand.Mode as modes
 use Rattle.p11_decode.specs.declared.operand.Mode.TheVariants.{Register, RegisterDeferred, AutoIncrement, AutoIncrementDeferred, AutoDecrement, AutoDecrementDeferred, Index, IndexDeferred}
 use Rattle.p11_decode.specs.declared.operand.Operand.{Operand}
 use Rattle.p11_decode.specs.declared.operand.Register as registers
-use Rattle.p11_decode.specs.declared.operand.Register.TheVariants.{R5, Sp, Pc}
 use Rattle.p11_decode.specs.declared.operand.Size.{Size}
 use Rattle.p11_decode.specs.declared.operand.Size.TheVariants.{Word}
-use Rattle.p11_psw.specs.declared.mode.Mode.{Mode}
 use Rattle.p11_psw.specs.declared.vector.Vector.{Vector}
 use Rattle.p11_psw.specs.declared.vector.Vector.TheVariants.{BusError, ReservedInstruction}
 use Rattle.p11_cpu.specs.declared.operand.Place.{Place}
 use Rattle.p11_cpu.specs.declared.operand.Place.TheVariants as places
-use Rattle.p11_cpu.specs.DoubleOperand.{bitwise, compare, compare_of, modify, modify_of, mov}
-use Rattle.p11_cpu.specs.ExtendedInstructions.{ash, ashc, div, mul, quotient_stored}
+use Rattle.p11_cpu.specs.DoubleOperand.{bitwise, compare_of, modify_of}
 use Rattle.p11_cpu.specs.Instructions.{execute_of}
 use Rattle.p11_cpu.specs.Operands.{address_in, indexed, is_mode_0, operands_of, place_in, place_of, pop_of, push_register_of, read_place_of, step_of, stored_in, target_of, value_of, write_moved_of, write_place_of}
-use Rattle.p11_cpu.specs.PreviousSpace.{mfpi, mtpi, read_previous_of, write_previous_of}
-use Rattle.p11_cpu.specs.ProcessorControl.{halt_instruction, halted, initialized, is_kernel, named_codes_of, reserved, reset, reset_in_kernel, return_from, returned, trap_vector, waiting}
-use Rattle.p11_cpu.specs.ProgramControl.{branch, branched, counted_back, jmp, jsr, mark, rts, sob}
-use Rattle.p11_cpu.specs.Registers.{get, pair_of_registers, register_of, set, set_pair_of, set_register_of}
-use Rattle.p11_cpu.specs.SingleOperand.{single, single_of, store_only, store_only_of, tst}
+use Rattle.p11_cpu.specs.PreviousSpace.{read_previous_of, write_previous_of}
+use Rattle.p11_cpu.specs.SingleOperand.{single_of, store_only_of}
 use Rattle.p11_cpu.specs.Step.{Step, change, fail}
-use Rattle.p11_cpu.specs.Words.{minus, plus, sign_extended, width_of}
-use Rattle.p11_cpu.proofs.Confined.{IfGives, Kept, Within, change_kept, either_kept, give_kept, look_kept, then_kept}
 use Rattle.p11_cpu.proofs.ConfinedReferences.{read_kept, read_previous_kept, write_kept, write_previous_kept}
-use Rattle.p11_cpu.proofs.ConfinedRegisters.{branched_within, conclude_kept, counted_within, pair_within, quotient_within, returned_within, set_codes_kept, set_previous_within, set_within, step_down_kept, step_up_kept, waiting_within}
+
+-- REGISTERS
+
+stack_pointer_kept : (mode : Mode) (value : ℕ) (file : Registers) → mode ≡ User → (with_stack_pointer mode value file).kernel_sp ≡ file.kernel_sp
+stack_pointer_kept Kernel value file e = cc e
+stack_pointer_kept Mode01 value file e = refl
+stack_pointer_kept Mode10 value file e = refl
+stack_pointer_kept User value file e = refl
+
+-- no register of user mode is the kernel's stack pointer
+kernel_sp_kept : (mode : Mode) (r : registers.Register) (value : ℕ) (file : Registers) → mode ≡ User → (with_register mode r value file).kernel_sp ≡ file.kernel_sp
+unfolding with_register
+kernel_sp_kept mode R0 value file e = refl
+kernel_sp_kept mode R1 value file e = refl
+kernel_sp_kept mode R2 value file e = refl
+kernel_sp_kept mode R3 value file e = refl
+kernel_sp_kept mode R4 value file e = refl
+kernel_sp_kept mode R5 value file e = refl
+kernel_sp_kept mode Sp value file e = stack_pointer_kept mode value file e
+kernel_sp_kept mode Pc value file e = refl
+
+-- a processor with the same kernel's stack pointer, stack limit, mark, modes and priority
+with_processor : (a h : HardwareState) (p : Processor) → p.registers.kernel_sp ≡ h.processor.registers.kernel_sp → p.stack_limit ≡ h.processor.stack_limit → p.halted ≡ h.processor.halted → p.status.current ≡ h.processor.status.current → p.status.previous ≡ h.processor.status.previous → p.status.priority ≡ h.processor.status.priority → Within a h → Within a (record h { processor = p })
+with_processor a h p sp limit mark current previous priority w =
+    let same : SameProcessor a.processor p = record {
+      kernel_sp = sp ∙ w.processor.kernel_sp;
+      stack_limit = limit ∙ w.processor.stack_limit;
+      halted = mark ∙ w.processor.halted;
+      current = current ∙ w.processor.current;
+      previous = previous ∙ w.processor.previous;
+      priority = priority ∙ w.processor.priority;
+    } in
+    record { laws = w.laws; confines = w.confines; processor = same; management = w.management; bus = w.bus }
+
+set_within : (r : registers.Register) (value : ℕ) (a h : HardwareState) → Within a h → Within a (set_register_of r value h)
+unfolding set_register_of
+set_within r value a h w =
+    with_processor a h _ (kernel_sp_kept h.processor.status.current r value h.processor.registers w.processor.current) refl refl refl refl refl w
+
+set_previous_within : (r : registers.Register) (value : ℕ) (a h : HardwareState) → Within a h → Within a (set_previous_register_of r value h)
+unfolding set_previous_register_of
+set_previous_within r value a h w =
+    with_processor a h _ (kernel_sp_kept h.processor.status.previous r value h.processor.registers w.processor.previous) refl refl refl refl refl w
+
+pair_within : (r : registers.Register) (pair : Pair) (a h : HardwareState) → Within a h → Within a (set_pair_of r pair h)
+unfolding set_pair_of
+pair_within r pair a h w =
+    set_within (odd_of r) pair.low a (set_register_of r pair.high h) (set_within r pair.high a h w)
+
+quotient_within : (r : registers.Register) (q : Quotient) (a h : HardwareState) → Within a h → Within a (quotient_stored r q h)
+unfolding quotient_stored
+quotient_within r q a h w = either_within q.fits a _ _ (pair_within r _ a h w) w
+
+branched_within : (condition : Condition) (offset : ℕ) (a h : HardwareState) → Within a h → Within a (branched condition offset h)
+unfolding branched
+branched_within condition offset a h w =
+    either_within (is_taken condition (codes_of h)) a _ _ (set_within Pc (branch_address offset (register_of Pc h)) a h w) w
+
+counted_within : (r : registers.Register) (count : ℕ) (a h : HardwareState) → Within a h → Within a (counted_back r count h)
+unfolding counted_back
+counted_within r count a h w = either_within _ a _ _ w (set_within Pc _ a h w)
+
+-- STEPS OF A REGISTER
+
+pub step_up_kept : (r : registers.Register) (n : ℕ) → Kept (step_up r n)
+unfolding step_up
+step_up_kept r n = record { keeps = λ a turn h w. set_within r (plus (register_of r h) n) a h w }
+
+yellow_within : (a h : HardwareState) → Within a h → Within a (record h { yellow_zone = true })
+yellow_within a h w =
+    record { laws = w.laws; confines = w.confines; processor = w.processor; management = w.management; bus = w.bus }
+
+checked : (zone : Zone) (address : ℕ) (a h : HardwareState) → Within a h → IfGives (Within a) (check_stack_limit zone address h)
+checked Clear address a h w = w
+checked Yellow address a h w = yellow_within a h w
+checked Red address a h w = tt
+
+step_down_kept : (r : registers.Register) (n : ℕ) → Kept (step_down r n)
+unfolding step_down
+step_down_kept r n =
+    record {
+      keeps = λ a turn h w.
+          let address = minus (register_of r h) n in
+          checked (zone_in h.processor.status.current r h.processor.stack_limit address) address a _ (set_within r address a h w);
+    }
+
+-- CODES AND STATUS
+
+codes_within : (codes : Codes) (a h : HardwareState) → Within a h → Within a (set_codes_of codes h)
+unfolding set_codes_of
+codes_within codes a h w = with_processor a h _ refl refl refl refl refl refl w
+
+set_codes_kept : (f : Codes → Codes) → Kept (set_codes f)
+set_codes_kept f = record { keeps = λ a turn h w. codes_within (f (codes_of h)) a h w }
+
+conclude_kept : {A : Type 0} (f : Codes → A × Codes) → Kept (conclude f)
+conclude_kept f = record { keeps = λ a turn h w. codes_within (f (codes_of h)).1 a h w }
+
+-- RTI and RTT in user mode: the modes and the priority stay
+returned_within : (pc word : ℕ) (a h : HardwareState) → Within a h → Within a (returned pc word h)
+unfolding returned resumed
+returned_within pc word a h w =
+    let previous = w.laws.previous h.processor.status word w.processor.current w.processor.previous in
+    with_processor a h _ refl refl refl (w.laws.current _ word w.processor.current ∙ sym w.processor.current)
+    (previous ∙ sym w.processor.previous) (w.laws.priority _ word w.processor.current) w
+
+-- the wait for an interrupt
+waiting_within : (a h : HardwareState) → Within a h → Within a (waiting h)
+unfolding waiting
+waiting_within a h w = with_processor a h _ refl refl refl refl refl refl w
 
 -- OPERANDS
 
@@ -115,86 +228,6 @@ pop_kept : Kept pop_of
 unfolding pop_of
 pop_kept = then_kept (step_up_kept Sp 2) (λ top. read_kept Word top)
 
--- OPERANDS, ONE AND TWO
-
-single_kept : (op : SingleOp) (size : Size) (o : Operand) → Kept (single op size o)
-single_kept op size o =
-    then_kept (place_kept size o) (λ place. then_kept (read_place_kept size place)
-    (λ number. then_kept (conclude_kept (single_of op size number)) (λ result. write_place_kept size place result)))
-
-store_only_kept : (op : StoreOnlyOp) (size : Size) (o : Operand) → Kept (store_only op size o)
-store_only_kept op size o =
-    then_kept (place_kept size o)
-    (λ place. then_kept (conclude_kept (store_only_of op size)) (λ result. write_place_kept size place result))
-
-tst_kept : (size : Size) (o : Operand) → Kept (tst size o)
-tst_kept size o = then_kept (value_kept size o) (λ number. set_codes_kept (λ _. logic_codes (width_of size) number false))
-
-modify_kept : (op : ModifyOp) (size : Size) (source destination : Operand) → Kept (modify op size source destination)
-modify_kept op size source destination =
-    then_kept (operands_kept size source destination) (λ taken. then_kept (read_place_kept size taken.place)
-    (λ number. then_kept (conclude_kept (modify_of op size taken.source number))
-    (λ result. write_place_kept size taken.place result)))
-
-compare_kept : (op : CompareOp) (size : Size) (source destination : Operand) → Kept (compare op size source destination)
-compare_kept op size source destination =
-    then_kept (operands_kept size source destination) (λ taken. then_kept (read_place_kept size taken.place)
-    (λ number. set_codes_kept (compare_of op size taken.source number)))
-
-mov_kept : (size : Size) (source destination : Operand) → Kept (mov size source destination)
-mov_kept size source destination =
-    then_kept (operands_kept size source destination) (λ taken. then_kept (conclude_kept (bitwise size taken.source))
-    (λ result. write_moved_kept size taken.place result))
-
--- EXTENDED INSTRUCTIONS
-
-mul_kept : (r : registers.Register) (o : Operand) → Kept (mul r o)
-mul_kept r o =
-    then_kept (value_kept Word o) (λ factor. then_kept (get_kept r) (λ number. then_kept (conclude_kept (λ _. mul_of number factor))
-    (λ product. change_kept (set_pair_of r product) (pair_within r product))))
-
-div_kept : (r : registers.Register) (o : Operand) → Kept (div r o)
-div_kept r o =
-    then_kept (value_kept Word o) (λ divisor. then_kept (look_kept (pair_of_registers r)) (λ pair. then_kept (set_codes_kept (λ _. (div_of pair divisor).codes))
-    (λ _. change_kept (quotient_stored r (div_of pair divisor)) (quotient_within r (div_of pair divisor)))))
-
-ash_kept : (r : registers.Register) (o : Operand) → Kept (ash r o)
-ash_kept r o =
-    then_kept (value_kept Word o) (λ count. then_kept (get_kept r) (λ number. then_kept (conclude_kept (λ _. ash_of number count))
-    (λ shifted. set_kept r shifted)))
-
-ashc_kept : (r : registers.Register) (o : Operand) → Kept (ashc r o)
-ashc_kept r o =
-    then_kept (value_kept Word o) (λ count. then_kept (look_kept (pair_of_registers r)) (λ pair. then_kept (conclude_kept (λ _. ashc_of pair count))
-    (λ shifted. change_kept (set_pair_of r shifted) (pair_within r shifted))))
-
--- PROGRAM CONTROL
-
-branch_kept : (condition : Condition) (offset : ℕ) → Kept (branch condition offset)
-branch_kept condition offset = change_kept (branched condition offset) (branched_within condition offset)
-
-jmp_kept : (o : Operand) → Kept (jmp o)
-jmp_kept o = then_kept (target_kept o) (set_kept Pc)
-
-jsr_kept : (link : registers.Register) (o : Operand) → Kept (jsr link o)
-jsr_kept link o =
-    then_kept (target_kept o) (λ target. then_kept (push_kept link) (λ _. then_kept (get_kept Pc)
-    (λ pc. then_kept (set_kept link pc) (λ _. set_kept Pc target))))
-
-rts_kept : (link : registers.Register) → Kept (rts link)
-rts_kept link =
-    then_kept (get_kept link) (λ return. then_kept (set_kept Pc return) (λ _. then_kept pop_kept
-    (λ word. set_kept link word)))
-
-mark_kept : (count : ℕ) → Kept (mark count)
-mark_kept count =
-    then_kept (get_kept Pc) (λ pc. then_kept (set_kept Sp (plus pc (2 * count))) (λ _. then_kept (get_kept R5)
-    (λ return. then_kept (set_kept Pc return) (λ _. then_kept pop_kept (λ word. set_kept R5 word)))))
-
-sob_kept : (r : registers.Register) (count : ℕ) → Kept (sob r count)
-sob_kept r count =
-    then_kept (get_kept r) (λ number. then_kept (set_kept r (minus number 1)) (λ _. change_kept (counted_back r count) (counted_within r count)))
-
 -- PROCESSOR CONTROL
 
 -- HALT is a reserved instruction in user mode
@@ -217,9 +250,6 @@ reset_kept =
           subst (λ (mode : Mode). Within a (cond (is_kernel mode) (initialized h) h)) (sym w.processor.current) w;
     }
 
-return_kept : Kept return_from
-return_kept = then_kept pop_kept (λ pc. then_kept pop_kept (λ word. change_kept (returned pc word) (returned_within pc word)))
-
 -- PREVIOUS SPACE
 
 read_previous_place_kept : (place : Place) → Kept (read_previous_of place)
@@ -232,43 +262,63 @@ unfolding write_previous_of
 write_previous_place_kept (places.Register r) word = record { keeps = λ a turn h w. set_previous_within r word a h w }
 write_previous_place_kept (places.Memory va) word = record { keeps = λ a turn h w. write_previous_kept va word turn a h w }
 
-mfpi_kept : (o : Operand) → Kept (mfpi o)
-mfpi_kept o =
-    then_kept (place_kept Word o) (λ place. then_kept (read_previous_place_kept place)
-    (λ word. then_kept (step_down_kept Sp 2) (λ top. then_kept (conclude_kept (bitwise Word word))
-    (λ result. write_kept Word top result))))
-
-mtpi_kept : (o : Operand) → Kept (mtpi o)
-mtpi_kept o =
-    then_kept pop_kept (λ word. then_kept (place_kept Word o) (λ place. then_kept (conclude_kept (bitwise Word word))
-    (λ result. write_previous_place_kept place result)))
-
 -- EVERY INSTRUCTION
 
 pub execute_kept : (op : Op) → Kept (execute_of op)
 unfolding execute_of
-execute_kept (ops.Single op size o) = single_kept op size o
-execute_kept (ops.StoreOnly op size o) = store_only_kept op size o
-execute_kept (ops.Tst size o) = tst_kept size o
-execute_kept (ops.Modify op size source destination) = modify_kept op size source destination
-execute_kept (ops.Compare op size source destination) = compare_kept op size source destination
-execute_kept (ops.Mov size source destination) = mov_kept size source destination
-execute_kept (ops.Mul r o) = mul_kept r o
-execute_kept (ops.Div r o) = div_kept r o
-execute_kept (ops.Ash r o) = ash_kept r o
-execute_kept (ops.Ashc r o) = ashc_kept r o
-execute_kept (ops.Branch condition offset) = branch_kept condition offset
-execute_kept (ops.Jmp o) = jmp_kept o
-execute_kept (ops.Jsr r o) = jsr_kept r o
-execute_kept (ops.Rts r) = rts_kept r
-execute_kept (ops.Mark count) = mark_kept count
-execute_kept (ops.Sob r count) = sob_kept r count
+execute_kept (ops.Single op size o) =
+    then_kept (place_kept size o) (λ place. then_kept (read_place_kept size place)
+    (λ number. then_kept (conclude_kept (single_of op size number)) (λ result. write_place_kept size place result)))
+execute_kept (ops.StoreOnly op size o) =
+    then_kept (place_kept size o)
+    (λ place. then_kept (conclude_kept (store_only_of op size)) (λ result. write_place_kept size place result))
+execute_kept (ops.Tst size o) = then_kept (value_kept size o) (λ number. set_codes_kept (λ _. logic_codes (width_of size) number false))
+execute_kept (ops.Modify op size source destination) =
+    then_kept (operands_kept size source destination) (λ taken. then_kept (read_place_kept size taken.place)
+    (λ number. then_kept (conclude_kept (modify_of op size taken.source number))
+    (λ result. write_place_kept size taken.place result)))
+execute_kept (ops.Compare op size source destination) =
+    then_kept (operands_kept size source destination) (λ taken. then_kept (read_place_kept size taken.place)
+    (λ number. set_codes_kept (compare_of op size taken.source number)))
+execute_kept (ops.Mov size source destination) =
+    then_kept (operands_kept size source destination) (λ taken. then_kept (conclude_kept (bitwise size taken.source))
+    (λ result. write_moved_kept size taken.place result))
+execute_kept (ops.Mul r o) =
+    then_kept (value_kept Word o) (λ factor. then_kept (get_kept r) (λ number. then_kept (conclude_kept (λ _. mul_of number factor))
+    (λ product. change_kept (set_pair_of r product) (pair_within r product))))
+execute_kept (ops.Div r o) =
+    then_kept (value_kept Word o) (λ divisor. then_kept (look_kept (pair_of_registers r)) (λ pair. then_kept (set_codes_kept (λ _. (div_of pair divisor).codes))
+    (λ _. change_kept (quotient_stored r (div_of pair divisor)) (quotient_within r (div_of pair divisor)))))
+execute_kept (ops.Ash r o) =
+    then_kept (value_kept Word o) (λ count. then_kept (get_kept r) (λ number. then_kept (conclude_kept (λ _. ash_of number count))
+    (λ shifted. set_kept r shifted)))
+execute_kept (ops.Ashc r o) =
+    then_kept (value_kept Word o) (λ count. then_kept (look_kept (pair_of_registers r)) (λ pair. then_kept (conclude_kept (λ _. ashc_of pair count))
+    (λ shifted. change_kept (set_pair_of r shifted) (pair_within r shifted))))
+execute_kept (ops.Branch condition offset) = change_kept (branched condition offset) (branched_within condition offset)
+execute_kept (ops.Jmp o) = then_kept (target_kept o) (set_kept Pc)
+execute_kept (ops.Jsr link o) =
+    then_kept (target_kept o) (λ target. then_kept (push_kept link) (λ _. then_kept (get_kept Pc)
+    (λ pc. then_kept (set_kept link pc) (λ _. set_kept Pc target))))
+execute_kept (ops.Rts link) =
+    then_kept (get_kept link) (λ return. then_kept (set_kept Pc return) (λ _. then_kept pop_kept
+    (λ word. set_kept link word)))
+execute_kept (ops.Mark count) =
+    then_kept (get_kept Pc) (λ pc. then_kept (set_kept Sp (plus pc (2 * count))) (λ _. then_kept (get_kept R5)
+    (λ return. then_kept (set_kept Pc return) (λ _. then_kept pop_kept (λ word. set_kept R5 word)))))
+execute_kept (ops.Sob r count) =
+    then_kept (get_kept r) (λ number. then_kept (set_kept r (minus number 1)) (λ _. change_kept (counted_back r count) (counted_within r count)))
 execute_kept (ops.Codes op named) = set_codes_kept (named_codes_of op named)
 execute_kept (ops.Trap op) = fail_kept (trap_vector op)
-execute_kept (ops.Return op) = return_kept
+execute_kept (ops.Return op) = then_kept pop_kept (λ pc. then_kept pop_kept (λ word. change_kept (returned pc word) (returned_within pc word)))
 execute_kept ops.Halt = halt_kept
 execute_kept ops.Wait = change_kept waiting waiting_within
 execute_kept ops.Reset = reset_kept
-execute_kept (ops.Mfpi o) = mfpi_kept o
-execute_kept (ops.Mtpi o) = mtpi_kept o
+execute_kept (ops.Mfpi o) =
+    then_kept (place_kept Word o) (λ place. then_kept (read_previous_place_kept place)
+    (λ word. then_kept (step_down_kept Sp 2) (λ top. then_kept (conclude_kept (bitwise Word word))
+    (λ result. write_kept Word top result))))
+execute_kept (ops.Mtpi o) =
+    then_kept pop_kept (λ word. then_kept (place_kept Word o) (λ place. then_kept (conclude_kept (bitwise Word word))
+    (λ result. write_previous_place_kept place result)))
 execute_kept ops.Reserved = fail_kept ReservedInstruction

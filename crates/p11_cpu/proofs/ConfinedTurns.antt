@@ -30,9 +30,8 @@ use Rattle.p11_cpu.specs.Registers.{register_of}
 use Rattle.p11_cpu.specs.State.{HardwareState, Processor, State, hardware_of, with_bus_of}
 use Rattle.p11_cpu.specs.Turns.{completed, decoded_at_pc, devices_acted, hardware_turn_of, instruction_of, instruction_run, marks_cleared, pc_taken, request_granted, served_or_run, traps_served, turn_of, word_at_pc, yellow_zone_trap}
 use Rattle.p11_cpu.proofs.Confined.{Confines, IfGives, Kept, Laws, SameBus, SameManagement, SameProcessor, Within, change_kept, give_kept, look_kept, then_kept}
-use Rattle.p11_cpu.proofs.ConfinedInstructions.{execute_kept}
+use Rattle.p11_cpu.proofs.ConfinedInstructions.{execute_kept, step_up_kept}
 use Rattle.p11_cpu.proofs.ConfinedReferences.{read_kept}
-use Rattle.p11_cpu.proofs.ConfinedRegisters.{step_up_kept}
 
 -- THE INSTRUCTION
 

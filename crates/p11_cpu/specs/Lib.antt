@@ -1,3 +1,4 @@
+-- The central processor: what the machine is, and what it does in a turn and between turns.
 pub mod Words
 pub mod State
 pub mod Prepared

@@ -84,7 +84,7 @@ impl Bank {
     }
 
     /// The register that an instruction names in the mode whose stack pointer is among the words.
-    #[tactic(auto, using(crate::proofs::Banks::r0, crate::proofs::Banks::r1, crate::proofs::Banks::r2, crate::proofs::Banks::r3, crate::proofs::Banks::r4, crate::proofs::Banks::r5, crate::proofs::Banks::sp, crate::proofs::Banks::pc))]
+    #[tactic(auto, unfolding(crate::specs::Registers::register_in), using(crate::proofs::Banks::counter, crate::proofs::Banks::in_front, crate::proofs::Banks::stack))]
     #[inline(always)]
     pub fn get(&self, _mode: Mode, register: Register) -> u16
         requires { is_kernel _mode ≡ self.now.of_kernel }
@@ -103,7 +103,7 @@ impl Bank {
     }
 
     /// Sets the register that an instruction names in the mode whose stack pointer is among the words.
-    #[tactic(auto, using(crate::proofs::Banks::with_r0, crate::proofs::Banks::with_r1, crate::proofs::Banks::with_r2, crate::proofs::Banks::with_r3, crate::proofs::Banks::with_r4, crate::proofs::Banks::with_r5, crate::proofs::Banks::with_sp, crate::proofs::Banks::with_pc))]
+    #[tactic(auto, unfolding(crate::specs::Registers::with_register), using(crate::proofs::Banks::with_counter, crate::proofs::Banks::general_set, crate::proofs::Banks::with_stack))]
     #[inline(always)]
     pub fn set(&mut self, _mode: Mode, register: Register, value: u16)
         requires { is_kernel _mode ≡ self.old.of_kernel }
@@ -166,7 +166,7 @@ impl Bank {
     }
 
     /// Sets the register that an instruction names in any mode.
-    #[tactic(auto, using(crate::proofs::Banks::with_r0, crate::proofs::Banks::with_r1, crate::proofs::Banks::with_r2, crate::proofs::Banks::with_r3, crate::proofs::Banks::with_r4, crate::proofs::Banks::with_r5, crate::proofs::Banks::with_pc, crate::proofs::Banks::with_sp_in))]
+    #[tactic(auto, unfolding(crate::specs::Registers::with_register), using(crate::proofs::Banks::with_counter, crate::proofs::Banks::general_set))]
     #[inline(always)]
     pub fn set_in(&mut self, mode: Mode, register: Register, value: u16)
         ensures { self.new ≡ record self.old { file = with_register mode register value self.old.file } }

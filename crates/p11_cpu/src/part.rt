@@ -1,3 +1,4 @@
+//! Which part of the machine answers at a bus address.
 ghost use Rattle.std.specs.Prelude.{◌≡◌, ◌==◌, ◌<◌, true};
 ghost use Rattle.p11_cpu.specs.declared.part.Part.TheVariants as parts;
 ghost use Rattle.p11_cpu.specs.References.{limit_address, part_at, status_address};

@@ -13,7 +13,7 @@ use p11_icache::Displacement;
 use std::alloc::Allocator;
 
 /// Where a branch goes from the word after it.
-#[tactic(auto, using(crate::proofs::Branching::branched_by))]
+#[tactic(auto, using(crate::proofs::HeldLines::branched_by))]
 #[inline(always)]
 fn branch_target(offset: Displacement, pc: u16) -> u16
     ensures { result ≡ branch_address offset pc }

@@ -1,3 +1,4 @@
+//! What may end an instruction before it is complete.
 use p11_psw::Vector;
 
 /// Why an instruction or a service ended before it was complete.

@@ -1,3 +1,4 @@
+//! The number of a turn.
 ghost use Rattle.std.specs.Prelude.{◌≡◌, ◌≤◌, ◌<◌, ◌+◌, ◌-◌, ◌^◌};
 
 use std::marker::Model;

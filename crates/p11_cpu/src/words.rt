@@ -1,3 +1,4 @@
+//! Words and bytes: sums, differences, and what a size makes of them.
 ghost use Rattle.std.specs.Prelude.{◌≡◌};
 ghost use Rattle.p11_alu.specs.Numbers.{val};
 ghost use Rattle.p11_cpu.specs.Words.{width_of, plus, minus, complement, sign_extended};
