@@ -39,9 +39,7 @@ impl TurnNumber {
         }
     }
 
-    /// The number before. It is out of line, so that the loop of instructions needn't keep that number.
-    #[cold]
-    #[inline(never)]
+    /// The number before.
     pub fn before(self) -> Self
         requires { 0 < self }
         ensures { result + 1 ≡ self }
