@@ -43,10 +43,14 @@ behind_last test text (suc place) =
 abbrev pub word_start : List ℕ → ℕ → ℕ
 word_start text place = behind_last is_blank text place
 
+-- where the blanks begin that end at the place
+abbrev pub blanks_start : List ℕ → ℕ → ℕ
+blanks_start text place = behind_last (λ byte. not (is_blank byte)) text place
+
 -- where the word begins that is before the place, with blanks between
 abbrev pub last_word_start : List ℕ → ℕ → ℕ
-last_word_start text place = word_start text (behind_last (λ byte. not (is_blank byte)) text place)
+last_word_start text place = word_start text (blanks_start text place)
 
 -- nothing but blanks stands before the word that ends at the cursor
 abbrev pub is_first : Line → Bool
-is_first line = nat_eq (last_word_start line.text (word_start line.text line.cursor)) 0
+is_first line = nat_eq (blanks_start line.text (word_start line.text line.cursor)) 0

@@ -7,7 +7,7 @@ use crate::key::Key;
 use crate::line::EditedLine;
 use crate::outcome::{Outcome, told, told_of};
 use crate::stock::Stock;
-use crate::words::{last_word_start, word_start};
+use crate::words::{blanks_start, last_word_start, word_start};
 use std::alloc::Allocator;
 
 /// A line that is typed, with what was cut and what is looked for.
@@ -85,7 +85,7 @@ impl Editor {
         ensures { result ≡ is_first self.now.line }
     {
         let text = self.line.text();
-        last_word_start(text, word_start(text, self.line.cursor())) == 0
+        blanks_start(text, word_start(text, self.line.cursor())) == 0
     }
 
     /// Does what a key says. The history isn't changed.

@@ -21,7 +21,7 @@ pub(crate) fn word_start(text: &[u8], place: usize) -> usize
 
 /// Where the blanks begin that end at a place.
 #[tactic(auto, using(crate::proofs::Places::behind_here, crate::proofs::Places::behind_down))]
-fn blanks_start(text: &[u8], place: usize) -> usize
+pub(crate) fn blanks_start(text: &[u8], place: usize) -> usize
     requires { place ≤ length text.now }
     ensures value { result ≡ behind_last (λ byte. not (is_blank byte)) text.now place }
     ensures within { result ≤ place }
