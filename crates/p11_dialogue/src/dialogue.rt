@@ -6,7 +6,7 @@ use crate::host::Host;
 use crate::keyboard::Keyboard;
 use crate::lines::Origin;
 use crate::names::Names;
-use crate::prompt::{Entry, LineTyped, read_line};
+use crate::prompt::{Entry, LineRead, take_line};
 use crate::reasons::misfit_of;
 use crate::seat::Seat;
 use crate::verb::Verb;
@@ -52,12 +52,21 @@ impl<
         if is_talk && self.can_go_on() && self.talk() == Next::End {
             return;
         }
-        let mut line = LineTyped::new();
+        if self.input.is_terminal() {
+            self.do_typed_lines();
+        } else {
+            self.do_given_lines();
+        }
+    }
+
+    /// Does the lines that a program or a file gives, to the end.
+    fn do_given_lines(&mut self) {
+        let mut line = LineRead::new();
         for _ in 0..u64::MAX {
             if !self.can_go_on() {
                 return;
             }
-            let next = match read_line(&mut self.input, &mut self.console, &mut line) {
+            let next = match take_line(&mut self.input, &mut line) {
                 Entry::Line => self.do_line(line.text()),
                 Entry::Long => self.refuse_long(),
                 Entry::End => self.end(),
@@ -117,7 +126,7 @@ impl<
     }
 
     /// Does a line that a person or a program has given.
-    fn do_line(&mut self, line: &[u8]) -> Next {
+    pub(crate) fn do_line(&mut self, line: &[u8]) -> Next {
         if is_silent(line) {
             return Next::Line;
         }

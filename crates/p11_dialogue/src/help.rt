@@ -16,7 +16,7 @@ pub(crate) fn say_all<W: Write>(console: &mut Console<W>) {
         console.say(verb.deed());
         console.say("\n");
     }
-    console.say("Addresses and words are octal, counts are decimal. help WORD says more.\n");
+    console.say("Octal addresses, decimal counts. Beginnings will do. help WORD says more.\n");
 }
 
 /// Says what there is about one word.
@@ -35,6 +35,10 @@ pub(crate) fn say_one<W: Write>(console: &mut Console<W>, verb: Verb) {
     }
     console.say("\n  example: ");
     console.say(verb.example());
+    if !verb.short().is_empty() {
+        console.say("\n  at a terminal also: ");
+        console.say(verb.short());
+    }
     console.say("\n  answers: ");
     console.say(verb.answer());
     console.say("\n");

@@ -4,6 +4,7 @@
 //! gives the same again.
 #![tactic(auto)]
 
+mod candidates;
 mod console;
 mod desk;
 mod dialogue;
@@ -21,12 +22,15 @@ mod scripts;
 mod seat;
 mod sitting;
 mod tapes;
+mod typed;
+mod typist;
 mod unsaved;
 mod verb;
 mod whole;
 mod whole_dialogue;
 mod wording;
 
+pub use candidates::Candidates;
 pub use desk::{Parting, Station};
 pub use host::Host;
 pub use keyboard::Keyboard;

@@ -1,11 +1,11 @@
-// A line of the console, typed with a little editing, or read as it stands.
+// A line of the console, typed by a person, or read as it stands.
 use crate::console::Console;
+use crate::host::Host;
 use crate::keyboard::{Input, Keyboard, Press};
+use crate::typist::{Edit, Typist};
 use arrayvec::ArrayVec;
+use std::alloc::Allocator;
 use std::io::Write;
-
-/// The most bytes of a line, without its end.
-const MOST_BYTES: usize = 4096;
 
 /// How a line came to its end.
 #[derive(Clone, Copy)]
@@ -18,27 +18,16 @@ pub(crate) enum Entry {
     End,
 }
 
-/// What a key does to the line that is typed.
-#[derive(Clone, Copy)]
-enum Edit {
-    /// Goes on.
-    GoOn,
-    /// The line is done.
-    Done,
-    /// The end of the input is asked for.
-    End,
-}
-
-/// The line that is typed.
+/// A line that is read.
 #[derive(Drop)]
-pub(crate) struct LineTyped {
+pub(crate) struct LineRead {
     bytes: ArrayVec<u8, 4096>,
     is_long: bool,
 }
 
-impl LineTyped {
+impl LineRead {
     pub(crate) fn new() -> Self {
-        LineTyped {
+        LineRead {
             bytes: ArrayVec::new(),
             is_long: false,
         }
@@ -63,33 +52,20 @@ impl LineTyped {
         self.bytes.try_push(byte).is_ok()
     }
 
-    /// Takes the last byte away; whether there was one.
-    fn rub_out(&mut self) -> bool {
-        self.bytes.pop().is_some()
-    }
-}
-
-/// Reads the next line: with a prompt and editing from a person, and else as it stands.
-pub(crate) fn read_line<K: Keyboard, W: Write>(
-    input: &mut Input<K>,
-    console: &mut Console<W>,
-    line: &mut LineTyped,
-) -> Entry {
-    line.clear();
-    if input.is_terminal() {
-        type_line(input, console, line)
-    } else {
-        take_line(input, line)
+    /// Takes the last byte away.
+    fn drop_last(&mut self) {
+        let _ = self.bytes.pop();
     }
 }
 
 /// Reads up to LF, and drops a CR just before it. The last line may have no LF.
-fn take_line<K: Keyboard>(input: &mut Input<K>, line: &mut LineTyped) -> Entry {
+pub(crate) fn take_line<K: Keyboard>(input: &mut Input<K>, line: &mut LineRead) -> Entry {
+    line.clear();
     for _ in 0..u64::MAX {
         match input.next() {
             Press::Byte(b'\n') => {
                 if line.text().last() == Some(&b'\r') {
-                    line.rub_out();
+                    line.drop_last();
                 }
                 break;
             }
@@ -107,10 +83,6 @@ fn take_line<K: Keyboard>(input: &mut Input<K>, line: &mut LineTyped) -> Entry {
             }
         }
     }
-    whole_or_long(line)
-}
-
-fn whole_or_long(line: &LineTyped) -> Entry {
     if line.is_long {
         Entry::Long
     } else {
@@ -118,72 +90,31 @@ fn whole_or_long(line: &LineTyped) -> Entry {
     }
 }
 
-/// Reads what a person types.
-fn type_line<K: Keyboard, W: Write>(
+/// Reads what a person types, up to the key that ends the line; whether there was such a key.
+pub(crate) fn type_line<A: Allocator + Copy, K: Keyboard, W: Write, E: Host>(
+    alloc: A,
     input: &mut Input<K>,
     console: &mut Console<W>,
-    line: &mut LineTyped,
-) -> Entry {
-    console.say("p11> ");
+    host: &mut E,
+    typist: &mut Typist<A>,
+) -> bool {
+    typist.begin(console);
     for _ in 0..u64::MAX {
         if console.is_torn() {
-            return Entry::End;
+            return false;
         }
         match input.next() {
-            Press::Byte(byte) => match edit_line(console, line, byte) {
+            Press::Byte(byte) => match typist.take(alloc, console, host, byte) {
                 Edit::GoOn => {}
-                Edit::Done => break,
-                Edit::End => return Entry::End,
+                Edit::Done => return true,
+                Edit::End => return false,
             },
-            Press::Nothing => input.pause(),
-            Press::End => return Entry::End,
+            Press::Nothing => {
+                typist.pause();
+                input.pause();
+            }
+            Press::End => return false,
         }
     }
-    whole_or_long(line)
-}
-
-/// Does what a key says, and shows it.
-fn edit_line<W: Write>(console: &mut Console<W>, line: &mut LineTyped, byte: u8) -> Edit {
-    match byte {
-        b'\r' | b'\n' => {
-            console.say("\n");
-            return Edit::Done;
-        }
-        // Ctrl-D
-        0o4 => {
-            if line.len() == 0 {
-                console.say("\n");
-                return Edit::End;
-            }
-        }
-        // Ctrl-C
-        0o3 => {
-            console.say("^C\np11> ");
-            line.clear();
-        }
-        // Ctrl-U
-        0o25 => {
-            for _ in 0..MOST_BYTES {
-                if !line.rub_out() {
-                    break;
-                }
-                console.say("\x08 \x08");
-            }
-        }
-        0o10 | 0o177 => {
-            if line.rub_out() {
-                console.say("\x08 \x08");
-            }
-        }
-        b'\t' | b' '..=b'~' => {
-            let shown = if byte == b'\t' { b' ' } else { byte };
-            if line.push(shown) {
-                console.put(&[shown]);
-            } else {
-                console.say("\x07");
-            }
-        }
-        _ => console.say("\x07"),
-    }
-    Edit::GoOn
+    false
 }

@@ -3,7 +3,7 @@ use crate::console::Console;
 use crate::host::Host;
 use crate::lines::Place;
 use crate::tapes::TapeNote;
-use crate::verb::{Part, Verb};
+use crate::verb::{Part, VERBS, Verb};
 use crate::wording::{first_word, word_behind};
 use p11_panel::{Fault, StoreError};
 use p11_tape::{TapeFault, TapeFaultKind};
@@ -90,6 +90,19 @@ fn say_misfit<W: Write>(console: &mut Console<W>, line: &[u8]) {
             quote(console, word_behind(line, others));
             console.say(" is one word too many");
             say_form(console, name);
+        }
+    }
+}
+
+/// Says which words begin as the first one of a typed line does.
+pub(crate) fn say_meanings<W: Write>(console: &mut Console<W>, typed: &[u8]) {
+    let (front, _) = first_word(typed);
+    let mut is_first = true;
+    for verb in VERBS {
+        if verb.name().as_bytes().starts_with(front) {
+            console.say(if is_first { ": " } else { ", " });
+            console.say(verb.name());
+            is_first = false;
         }
     }
 }

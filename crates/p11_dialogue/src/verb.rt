@@ -1,4 +1,5 @@
 // The words with which a line of the console begins.
+use p11_phrases::{Meant, full_word, word_meant};
 
 /// What a word of a line has to be.
 #[derive(Clone, Copy)]
@@ -100,6 +101,14 @@ impl Verb {
         None
     }
 
+    /// The verb that a word stands for, which may be a beginning.
+    pub(crate) fn meant(name: &[u8]) -> Option<Verb> {
+        match word_meant(name) {
+            Meant::Word(place) => Verb::named(full_word(place)?),
+            Meant::Several | Meant::Nothing => None,
+        }
+    }
+
     pub(crate) fn name(self) -> &'static str {
         match self {
             Verb::Examine => "examine",
@@ -195,6 +204,17 @@ impl Verb {
             Verb::Do => "do examples/boot.p11",
             Verb::Help => "help mount",
             _ => self.name(),
+        }
+    }
+
+    /// What a person may type at a terminal in its place, beside a beginning of its name.
+    pub(crate) fn short(self) -> &'static str {
+        match self {
+            Verb::Examine => "e 1000-1020, e r0, e r0-sp; an empty line: the next word",
+            Verb::Deposit => "d 1000-1020 0, d r0 5 6, d pc 1000",
+            Verb::Help => "?",
+            Verb::Quit => "exit",
+            _ => "",
         }
     }
 

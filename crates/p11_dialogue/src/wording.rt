@@ -26,6 +26,20 @@ pub(crate) fn word_behind(text: &[u8], others: u32) -> &[u8] {
     first_word(rest).0
 }
 
+/// How many words a text has.
+pub(crate) fn count_words(text: &[u8]) -> usize {
+    let mut count = 0usize;
+    let mut is_inside = false;
+    for byte in text {
+        let is_blank = is_blank(*byte);
+        if !is_blank && !is_inside {
+            count = count.saturating_add(1);
+        }
+        is_inside = !is_blank;
+    }
+    count
+}
+
 /// Whether a line is blank or a remark.
 pub(crate) fn is_silent(line: &[u8]) -> bool {
     let (first, _) = first_word(line);

@@ -1,4 +1,5 @@
-use p11_dialogue::{Host, Keyboard};
+use p11_dialogue::{Candidates, Host, Keyboard};
+use std::alloc::{AllocError, Allocator};
 use std::io;
 use std::io::{ErrorKind, Read};
 
@@ -70,4 +71,23 @@ impl Host for MemoryHost<'_> {
         let newest = self.newest.as_bytes();
         name == newest && other != newest
     }
+
+    fn columns(&self) -> usize {
+        80
+    }
+
+    fn add_files<A: Allocator + Copy>(
+        &self,
+        _alloc: A,
+        _front: &[u8],
+        _names: &mut Candidates<A>,
+    ) -> Result<(), AllocError> {
+        Ok(())
+    }
+
+    fn past_lines(&self) -> &[u8] {
+        &[]
+    }
+
+    fn keep_line(&mut self, _line: &[u8]) {}
 }

@@ -28,6 +28,8 @@ pub(crate) enum Cause {
     RecordExists,
     /// The record's file can't be made.
     NoRecord,
+    /// The history's file can't be read and written.
+    NoHistory,
     /// A writer failed.
     Torn(Torn),
     /// The input can't be read.
@@ -48,6 +50,10 @@ pub(crate) fn ending(cause: &Cause) -> (u8, &str) {
         Cause::NoMemory => (3, "terminal: no memory\n"),
         Cause::RecordExists => (1, "terminal: the record's file is there already\n"),
         Cause::NoRecord => (1, "terminal: the record's file can't be made\n"),
+        Cause::NoHistory => (
+            1,
+            "terminal: the history's file can't be read and written\n",
+        ),
         Cause::Torn(Torn::Record) => (1, "terminal: the record can't be written\n"),
         Cause::Torn(Torn::Screen) => (1, "terminal: write fault\n"),
         Cause::Reading => (1, "terminal: read fault\n"),

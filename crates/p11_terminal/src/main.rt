@@ -7,18 +7,22 @@
 ghost use Rattle.std.specs.Prelude.{◌≡◌, ◌<◌};
 
 mod ending;
+mod past;
+mod remark;
 mod settings;
 mod system;
 
 use crate::ending::{Cause, Torn, ending};
+use crate::past::Past;
+use crate::remark::remark;
 use crate::settings::{Launch, settings};
 use crate::system::{Output, RecordFile, SystemHost, SystemKeyboard};
 use p11_dialogue::{Parting, Person, Record, Station, Wish, converse};
 use p11_files::FileStore;
 use p11_panel::Panel;
 use std::alloc::Allocator;
-use std::fs::OpenOptions;
-use std::io::ErrorKind;
+use std::fs::{File, OpenOptions};
+use std::io::{ErrorKind, Write};
 use std::marker::Brand;
 use std::process::ExitCode;
 use std::sync::ledger::{Blank, Ledger};
@@ -73,9 +77,21 @@ fn record(rt: &HostRuntime, launch: &Launch<'_>) -> Result<RecordFile, Cause> {
         .create_new(true)
         .open(rt, path)
     {
-        Ok(file) => Ok(RecordFile::File(file)),
+        Ok(file) => begin_record(rt, file),
         Err(error) if error.kind() == ErrorKind::AlreadyExists => Err(Cause::RecordExists),
         Err(_) => Err(Cause::NoRecord),
+    }
+}
+
+/// Writes the remark with which a record begins.
+fn begin_record(rt: &HostRuntime, file: File) -> Result<RecordFile, Cause> {
+    let Ok(text) = remark(rt) else {
+        return Err(Cause::NoMemory);
+    };
+    let mut file = file;
+    match file.write_all(text.as_slice()) {
+        Ok(()) => Ok(RecordFile::File(file)),
+        Err(_) => Err(Cause::Torn(Torn::Record)),
     }
 }
 
@@ -88,6 +104,7 @@ fn hold<L: Ledger>(rt: &HostRuntime, launch: &Launch<'_>, blank: Blank) -> Resul
     let Ok(panel) = Panel::new(rt.alloc(), launch.config) else {
         return Err(Cause::NoMemory);
     };
+    let past = Past::open(rt, launch.history)?;
     let journal = Record::new(record(rt, launch)?);
     let screen = if launch.is_batch {
         Output::Nothing
@@ -104,7 +121,7 @@ fn hold<L: Ledger>(rt: &HostRuntime, launch: &Launch<'_>, blank: Blank) -> Resul
         keyboard: SystemKeyboard::new(rt),
         console: Output::Standard(rt.stdout()),
         errors: Output::Errors(rt.stderr()),
-        host: SystemHost::new(rt),
+        host: SystemHost::new(rt, past),
     };
     let wish = Wish {
         script: launch.script.map(|name| name.as_bytes()),

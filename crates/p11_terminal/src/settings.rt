@@ -14,6 +14,8 @@ pub(crate) struct Launch<'a> {
     pub(crate) slice: u32,
     /// The record's file.
     pub(crate) record: Option<&'a str>,
+    /// The history's file.
+    pub(crate) history: Option<&'a str>,
     /// Whether the machine's terminal comes behind the script.
     pub(crate) is_talk: bool,
     /// Whether the script is all.
@@ -26,7 +28,7 @@ pub(crate) struct Launch<'a> {
 }
 
 /// The version that `--version` shows.
-const VERSION: &str = "1.0.0";
+pub(crate) const VERSION: &str = "1.0.0";
 
 const MEMORY: u32 = 28;
 
@@ -84,6 +86,12 @@ fn command<'a>(alloc: Global) -> Result<Command<'a>, AllocError> {
                 .value_name("FILE")
                 .help("A new file for the lines of what is done, which p11 plays again"),
         )?
+        .arg(
+            Arg::new(alloc, "history")
+                .long("history")
+                .value_name("FILE")
+                .help("A file that keeps the lines which are typed, for later dialogues"),
+        )?
         .arg(flag(alloc, "no-save", save))?
         .arg(flag(alloc, "batch", batch).requires_arg("SCRIPT")?)?
         .arg(flag(alloc, "strict", strict).requires_arg("batch")?)?
@@ -140,6 +148,7 @@ pub(crate) fn settings<'a>(alloc: Global, words: &'a [String]) -> Result<Launch<
         config,
         slice,
         record: matches.get_str("record"),
+        history: matches.get_str("history"),
         is_talk: matches.get_flag("talk"),
         is_batch: matches.get_flag("batch"),
         is_strict: matches.get_flag("strict"),

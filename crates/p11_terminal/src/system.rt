@@ -1,9 +1,11 @@
 // What the system gives: its keyboard, its files and what it says of them, and its writers.
-use p11_dialogue::{Host, Keyboard};
+use crate::past::Past;
+use p11_dialogue::{Candidates, Host, Keyboard};
+use std::alloc::{AllocError, Allocator};
 use std::fs::File;
 use std::io::{ErrorKind, IsTerminal, Read, Stderr, Stdin, Stdout, Write};
 use std::time::{Duration, SystemTime};
-use std::{fs, io, thread};
+use std::{env, fs, io, thread};
 
 /// How many milliseconds it waits where there is nothing to do.
 const PAUSE_MS: u64 = 20;
@@ -44,15 +46,29 @@ impl Keyboard for SystemKeyboard<'_> {
     }
 }
 
-/// The host's files.
+/// The columns of a terminal of which nothing is known.
+const COLUMNS: usize = 80;
+
+/// The host's files, and its terminal.
 #[derive(Drop)]
 pub(crate) struct SystemHost<'a> {
     rt: &'a HostRuntime,
+    past: Past,
+    /// The file in which the launcher keeps the size of the terminal; none where it is empty.
+    size_file: String,
 }
 
 impl<'a> SystemHost<'a> {
-    pub(crate) fn new(rt: &'a HostRuntime) -> Self {
-        SystemHost { rt }
+    pub(crate) fn new(rt: &'a HostRuntime, past: Past) -> Self {
+        let size_file = match env::var(rt, "P11_SIZE") {
+            Ok(name) => name,
+            Err(_) => String::new(rt.alloc()),
+        };
+        SystemHost {
+            rt,
+            past,
+            size_file,
+        }
     }
 }
 
@@ -90,6 +106,109 @@ impl Host for SystemHost<'_> {
             (Some(time), Some(than)) => time > than,
             _ => false,
         }
+    }
+
+    fn columns(&self) -> usize {
+        columns_in(self.rt, self.size_file.as_str()).unwrap_or(COLUMNS)
+    }
+
+    fn add_files<A: Allocator + Copy>(
+        &self,
+        alloc: A,
+        front: &[u8],
+        names: &mut Candidates<A>,
+    ) -> Result<(), AllocError> {
+        let Ok(front) = str::from_utf8(front) else {
+            return Ok(());
+        };
+        add_files(self.rt, alloc, front, names)
+    }
+
+    fn past_lines(&self) -> &[u8] {
+        self.past.lines()
+    }
+
+    fn keep_line(&mut self, line: &[u8]) {
+        self.past.keep(self.rt.alloc(), line);
+    }
+}
+
+/// The columns of the terminal, which is the second number in the launcher's file.
+fn columns_in(rt: &HostRuntime, name: &str) -> Option<usize> {
+    if name.is_empty() {
+        return None;
+    }
+    let text = fs::read_to_string(rt, name).ok()?;
+    let (_, columns) = text.as_str().trim_end().split_once(" ")?;
+    match columns.parse::<usize>() {
+        Ok(0) | Err(_) => None,
+        Ok(columns) => Some(columns),
+    }
+}
+
+/// Adds the files whose names begin so, behind their folder where one is named.
+fn add_files<A: Allocator + Copy>(
+    rt: &HostRuntime,
+    alloc: A,
+    front: &str,
+    names: &mut Candidates<A>,
+) -> Result<(), AllocError> {
+    let (folder, begun) = match front.rsplit_once("/") {
+        Some((folder, begun)) => (Some(folder), begun),
+        None => (None, front),
+    };
+    let Ok(entries) = fs::read_dir(rt, folder_path(folder)) else {
+        return Ok(());
+    };
+    for entry in entries {
+        let Ok(entry) = entry else {
+            return Ok(());
+        };
+        let name = entry.file_name();
+        let is_hidden = begun.is_empty() && name.starts_with(".");
+        if name.starts_with(begun) && !is_hidden {
+            add_file(rt, alloc, folder, name, names)?;
+        }
+    }
+    Ok(())
+}
+
+/// The path of a folder that is named before a slash, or of the one in which the program was started.
+fn folder_path(folder: Option<&str>) -> &str {
+    match folder {
+        None => ".",
+        Some("") => "/",
+        Some(folder) => folder,
+    }
+}
+
+/// Adds a file of a folder.
+fn add_file<A: Allocator + Copy>(
+    rt: &HostRuntime,
+    alloc: A,
+    folder: Option<&str>,
+    name: &str,
+    names: &mut Candidates<A>,
+) -> Result<(), AllocError> {
+    let mut path = Vec::new(alloc);
+    if let Some(folder) = folder {
+        path.extend_from_slice(folder.as_bytes())?;
+        path.push(b'/')?;
+    }
+    path.extend_from_slice(name.as_bytes())?;
+    if is_folder(rt, path.as_slice()) {
+        path.push(b'/')?;
+    }
+    names.add(alloc, path.as_slice())
+}
+
+fn is_folder(rt: &HostRuntime, path: &[u8]) -> bool {
+    match str::from_utf8(path) {
+        Ok(path) => match fs::metadata(rt, path) {
+            Ok(there) => there.is_dir(),
+            Err(_) => false,
+        },
+        Err(_) => false,
     }
 }
 

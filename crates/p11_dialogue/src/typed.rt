@@ -1,0 +1,108 @@
+// Lines that a person types at the console, in words for people.
+use crate::desk::Opening;
+use crate::dialogue::Next;
+use crate::host::Host;
+use crate::keyboard::Keyboard;
+use crate::prompt::type_line;
+use crate::reasons::say_meanings;
+use crate::seat::Seat;
+use crate::typist::Typist;
+use crate::wording::next_line;
+use p11_panel::{Answer, Fault, Store};
+use p11_phrases::{Place, Refusal, read_phrase};
+use std::alloc::Allocator;
+use std::io::Write;
+
+/// The most lines of the language that a typed one becomes.
+const MOST_LINES: u32 = 4096;
+
+impl<
+    A: Allocator + Copy,
+    S: Store,
+    T: Write,
+    L: Write,
+    O: Opening,
+    K: Keyboard + Drop,
+    W: Write + Drop,
+    E: Host + Drop,
+> Seat<A, S, T, L, O, K, W, E> {
+    /// Does the lines that a person types, to the end.
+    pub(crate) fn do_typed_lines(&mut self) {
+        let mut typist = Typist::new(self.alloc);
+        typist.remember_all(self.alloc, self.host.past_lines());
+        let mut place = Place::Nowhere;
+        for _ in 0..u64::MAX {
+            if !self.can_go_on() || self.do_next(&mut typist, &mut place) != Next::Line {
+                return;
+            }
+        }
+    }
+
+    /// Does the next line that a person types.
+    fn do_next(&mut self, typist: &mut Typist<A>, place: &mut Place) -> Next {
+        let is_typed = type_line(
+            self.alloc,
+            &mut self.input,
+            &mut self.console,
+            &mut self.host,
+            typist,
+        );
+        if is_typed {
+            self.do_typed(place, typist.text())
+        } else {
+            self.end()
+        }
+    }
+
+    /// Does a typed line: as it stands, or by the lines that it means.
+    fn do_typed(&mut self, place: &mut Place, typed: &[u8]) -> Next {
+        match read_phrase(self.alloc, *place, typed) {
+            Err(refusal) => self.refuse_phrase(typed, refusal),
+            Ok(phrase) => {
+                *place = phrase.place;
+                match &phrase.lines {
+                    None => self.do_line(typed),
+                    Some(lines) => self.do_meant(lines.as_slice()),
+                }
+            }
+        }
+    }
+
+    /// Does the lines that a typed one means, and shows each.
+    fn do_meant(&mut self, text: &[u8]) -> Next {
+        let mut rest = text;
+        for _ in 0..MOST_LINES {
+            if rest.is_empty() || !self.can_go_on() {
+                return Next::Line;
+            }
+            let (line, after) = next_line(rest);
+            rest = after;
+            self.console.say("= ");
+            self.console.put(line);
+            self.console.say("\n");
+            let next = self.do_line(line);
+            if next != Next::Line {
+                return next;
+            }
+        }
+        Next::Line
+    }
+
+    /// Says why a typed line means nothing.
+    fn refuse_phrase(&mut self, typed: &[u8], refusal: Refusal) -> Next {
+        let fault = if let Refusal::NoMemory = refusal {
+            Fault::NoMemory
+        } else {
+            Fault::BadLine
+        };
+        let answer = Answer::<A>::Refused(fault);
+        self.console.answer(&answer);
+        self.console.say("  ");
+        self.console.say(refusal.reason());
+        if let Refusal::Ambiguous = refusal {
+            say_meanings(&mut self.console, typed);
+        }
+        self.console.say(".\n");
+        Next::Line
+    }
+}
