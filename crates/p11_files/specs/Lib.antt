@@ -1,1 +1,3 @@
+-- What contracts know of the files of the system that a store reads and replaces, and of the store's calls.
 pub mod NewFiles
+pub mod Told

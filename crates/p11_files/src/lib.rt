@@ -4,6 +4,7 @@
 mod file_store;
 mod new_file;
 mod replacing;
+mod told;
 
 pub use file_store::FileStore;
 pub use new_file::{NewFile, fill};

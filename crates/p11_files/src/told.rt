@@ -1,0 +1,42 @@
+// The calls of a store, which contracts alone see.
+ghost use Rattle.std.specs.Prelude.{◌≡◌, List, [], ◌∷◌, ◌++◌};
+ghost use Rattle.std.specs.Borrow.{ftrue};
+ghost use Rattle.p11_store.specs.Store.{StoreCall};
+ghost use Rattle.p11_files.specs.Told.{calls_code};
+
+use std::marker::Model;
+
+/// A call: whether a file was put or asked for, its name, and whether that was refused.
+#[derive(Clone, Copy, Drop)]
+pub struct ToldCall<'a> {
+    pub is_put: bool,
+    pub name: &'a [u8],
+    pub is_refused: bool,
+}
+
+/// The calls that a store was asked, the first one first. It takes no bytes, and its methods do nothing at run time.
+#[derive(Drop)]
+pub struct ToldCalls {
+    pub ghost made: { List StoreCall } by { calls_code },
+}
+
+impl Model for ToldCalls {
+    ghost also_owns = { λ _. ftrue };
+}
+
+impl ToldCalls {
+    /// No call yet.
+    pub(crate) fn new() -> ToldCalls
+        ensures { result.made ≡ [] }
+    {
+        ToldCalls {}
+    }
+
+    /// These calls, and one more.
+    pub(crate) fn then(&self, _call: &ToldCall<'_>) -> ToldCalls
+        ensures { result.made ≡ self.now.made
+            ++ record { is_put = _call.now.is_put; name = _call.now.name.now; is_refused = _call.now.is_refused } ∷ [] }
+    {
+        ToldCalls {}
+    }
+}
