@@ -9,3 +9,4 @@ mod told;
 pub use file_store::FileStore;
 pub use new_file::{NewFile, fill};
 pub use replacing::replace_file;
+pub use told::ToldEnds;

@@ -1,5 +1,5 @@
-// The calls of a store, which contracts alone see.
-ghost use Rattle.std.specs.Prelude.{◌≡◌, List, [], ◌∷◌, ◌++◌};
+// The calls of a store, of a reader and of a writer, which contracts alone see.
+ghost use Rattle.std.specs.Prelude.{◌≡◌, Bool, List, [], ◌∷◌, ◌++◌};
 ghost use Rattle.std.specs.Borrow.{ftrue};
 ghost use Rattle.p11_store.specs.Store.{StoreCall};
 ghost use Rattle.p11_files.specs.Told.{calls_code};
@@ -38,5 +38,32 @@ impl ToldCalls {
             ++ record { is_put = _call.now.is_put; name = _call.now.name.now; is_refused = _call.now.is_refused } ∷ [] }
     {
         ToldCalls {}
+    }
+}
+
+/// How the calls of a reader or a writer ended, the first one first: whether each went well. It takes no bytes, and its
+/// methods do nothing at run time.
+#[derive(Drop)]
+pub struct ToldEnds {
+    pub ghost made: { List Bool },
+}
+
+impl Model for ToldEnds {
+    ghost also_owns = { λ _. ftrue };
+}
+
+impl ToldEnds {
+    /// No call yet.
+    pub fn new() -> ToldEnds
+        ensures { result.made ≡ [] }
+    {
+        ToldEnds {}
+    }
+
+    /// These calls, and one more.
+    pub fn then(&self, _went_well: &bool) -> ToldEnds
+        ensures { result.made ≡ self.now.made ++ _went_well.now ∷ [] }
+    {
+        ToldEnds {}
     }
 }
