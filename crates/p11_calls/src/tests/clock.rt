@@ -1,3 +1,4 @@
+// The clock by itself: its bits and its request after each call, and the turns in which it ticks.
 use p11_kw11::{Kw11, Register};
 use std::process::Abort;
 

@@ -1,3 +1,4 @@
+// The status word and its fields, modes, priorities, the levels of vectors, and the zones of the stack.
 use p11_psw::{Mode, Priority, Psw, Vector, Zone, zone};
 use std::test::Fail;
 
