@@ -16,8 +16,8 @@
 //! - Stores: each call is refused. The line that made it is told so and changes nothing, and the others are answered as
 //!   if it hadn't been asked.
 //!
-//! What no file can say it tries by hand: sizes, commands with numbers that no line has, lists of commands, and scripts
-//! with other ends of lines, of long lines and without an end.
+//! What no file can say it tries by hand: sizes, commands with numbers that no line has, lists of commands, scripts with
+//! other ends of lines, of long lines and without an end, and a run that finds memory for its first sector alone.
 //!
 //! Where something differs, the program prints what was to be and what is, and ends with status 1.
 #![tactic(auto)]
@@ -32,6 +32,7 @@ mod case;
 mod cases;
 mod disturbed;
 mod full_heap;
+mod given;
 mod scripts;
 mod stop;
 mod store_calls;
@@ -39,6 +40,7 @@ mod streams;
 
 use crate::by_hand::{give_commands, give_lists, give_long_lists, judge_sizes, refuse_a_copy};
 use crate::cases::Cases;
+use crate::given::stop_runs;
 use crate::scripts::play_scripts;
 use p11_panel::Config;
 use p11_test_data::{Wrong, bad_line};
@@ -75,7 +77,7 @@ fn try_files(rt: &HostRuntime) -> io::Result<bool> {
     }
     match try_by_hand(rt.alloc()) {
         Ok(()) => println!(rt;
-            "sizes, commands, lists of commands and scripts: as they are to be"
+            "sizes, commands, lists of commands, scripts and runs that memory stops: as they are to be"
         )?,
         Err(wrong) => {
             println!(rt; "{wrong}")?;
@@ -92,7 +94,8 @@ fn try_by_hand(alloc: Global) -> Result<(), Wrong> {
     give_lists(alloc)?;
     give_long_lists(alloc)?;
     refuse_a_copy(alloc)?;
-    play_scripts(alloc)
+    play_scripts(alloc)?;
+    stop_runs(alloc)
 }
 
 /// Tries the cases of a file's text.
