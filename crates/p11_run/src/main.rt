@@ -13,6 +13,7 @@ mod script_reader;
 mod settings;
 #[cfg(test)]
 mod tests;
+mod told;
 
 use crate::ending::Cause;
 use crate::finish::finish;

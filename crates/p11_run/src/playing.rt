@@ -1,6 +1,7 @@
 // The session of a script.
 use crate::ending::Cause;
-use p11_panel::{Panel, StdReader, StdWriter, Store, session};
+use crate::told::{ToldReader, ToldWriter};
+use p11_panel::{Panel, Store, session};
 use std::alloc::Global;
 use std::io::{Read, Write};
 
@@ -13,8 +14,8 @@ pub(crate) fn play_script<R: Read + Drop, W: Write + Drop, S: Store>(
     script: R,
     output: W,
 ) -> Result<(), Cause> {
-    let mut script = StdReader { inner: script };
-    let mut output = StdWriter { inner: output };
+    let mut script = ToldReader::new(script);
+    let mut output = ToldWriter::new(output);
     session(alloc, panel, store, &mut script, &mut output)?;
     Ok(())
 }
