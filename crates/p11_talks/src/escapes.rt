@@ -1,3 +1,4 @@
+// The bytes of keys, as data writes them.
 use p11_panel::{Bytes, Line, line_of, parse_line};
 use p11_test_data::{Wrong, bad_line, text_of};
 use std::alloc::Global;

@@ -1,3 +1,4 @@
+// The keyboard and the host of a dialogue.
 use p11_dialogue::{Candidates, Host, Keyboard};
 use std::alloc::{AllocError, Allocator};
 use std::io;

@@ -1,29 +1,41 @@
-//! The program `p11_talks`: holds dialogues that are written down, and says where they go another way.
+//! The program `p11_talks`: holds dialogues, types keys and lines that are written down, and says where they go another way.
 //!
-//! `p11_talks FILE..` holds the dialogues of each file (see `Talks`) and prints how many there are. What the machine
-//! types, what the console says and what is recorded are what is written down; the record, played as a script on a new
-//! machine, types the same and leaves the same. The same is tried where a read, a write, a call of the store or memory
-//! fails. Where something differs, it prints the dialogue, what was to come and what came instead, and ends with
-//! status 1.
+//! `p11_talks FILE..` plays each file, and prints how many rows it has. A file whose name ends in `keys.txt` has keys that are
+//! typed into the console's line (see `Rows`), one whose name ends in `phrases.txt` lines that a person types (see `Phrases`),
+//! and any other one has dialogues (see `Talks`): what the machine types, what the console says and what is recorded are what
+//! is written down; the record, played as a script on a new machine, types the same and leaves the same. The same is tried
+//! where a read, a write, a call of the store or memory fails. Where something differs, it prints its place, what was to come
+//! and what came instead, and ends with status 1.
 #![tactic(auto)]
 
 ghost use Rattle.std.specs.Prelude.{◌≡◌, ◌<◌};
 
 mod breaking;
 mod escapes;
+mod glass;
 mod holding;
 mod keys;
+mod phrases;
 mod records;
+mod rows;
+mod spelling;
 mod talk;
 mod talks;
+mod tally;
+mod typist;
+mod vocabulary;
 
+use crate::phrases::Phrases;
+use crate::rows::Rows;
 use crate::talks::Talks;
+use crate::tally::Tally;
 use p11_test_data::Wrong;
+use std::alloc::Global;
 use std::process::ExitCode;
 use std::{env, fs, io};
 
 fn main(rt: HostRuntime) -> ExitCode {
-    match hold_files(&rt) {
+    match play_files(&rt) {
         Ok(true) => ExitCode::SUCCESS,
         Ok(false) => ExitCode::FAILURE,
         Err(_) => {
@@ -33,28 +45,83 @@ fn main(rt: HostRuntime) -> ExitCode {
     }
 }
 
-/// Holds the dialogues of each file that the command line names; whether all go as they are written down.
-fn hold_files(rt: &HostRuntime) -> io::Result<bool> {
+/// Plays each file that the command line names; whether all goes as it is written down.
+fn play_files(rt: &HostRuntime) -> io::Result<bool> {
     let mut is_right = true;
     for path in env::args(rt)?.skip(1) {
         let text = fs::read_to_string(rt, path.as_str())?;
-        match hold_text(rt, text.as_str()) {
-            Ok(count) => println!(rt; "{path}: {count} dialogues")?,
-            Err(wrong) => {
-                println!(rt; "{path}: {wrong}")?;
-                is_right = false;
-            }
-        }
+        is_right &= play_file(rt, path.as_str(), text.as_str())?;
     }
     Ok(is_right)
 }
 
-/// Holds the dialogues of a file's text; how many there are.
-fn hold_text(rt: &HostRuntime, text: &str) -> Result<u32, Wrong> {
-    let mut talks = Talks::new(rt.alloc());
-    for line in text.lines() {
-        talks.take(rt.alloc(), line)?;
+/// Plays a file's text, by the file's name.
+fn play_file(rt: &HostRuntime, path: &str, text: &str) -> io::Result<bool> {
+    let alloc = rt.alloc();
+    if path.ends_with("keys.txt") {
+        report(rt, path, type_keys(alloc, text), "rows of keys")
+    } else if path.ends_with("phrases.txt") {
+        report(rt, path, read_lines(alloc, text), "typed lines")
+    } else {
+        report(rt, path, hold_text(alloc, text), "dialogues")
     }
-    talks.finish(rt.alloc())?;
-    Ok(talks.count())
+}
+
+/// Prints how many rows a file has, and each that went another way; whether none did.
+fn report(
+    rt: &HostRuntime,
+    path: &str,
+    played: Result<Tally, Wrong>,
+    rows: &str,
+) -> io::Result<bool> {
+    match played {
+        Ok(tally) => report_tally(rt, path, &tally, rows),
+        Err(wrong) => {
+            println!(rt; "{path}: {wrong}")?;
+            Ok(false)
+        }
+    }
+}
+
+fn report_tally(rt: &HostRuntime, path: &str, tally: &Tally, rows: &str) -> io::Result<bool> {
+    for wrong in &tally.failures {
+        println!(rt; "{path}: {wrong}")?;
+    }
+    let (failed, count) = (tally.failures.len(), tally.count);
+    if failed == 0 {
+        println!(rt; "{path}: {count} {rows}")?;
+    } else {
+        println!(rt; "{path}: {failed} of {count} {rows} differ")?;
+    }
+    Ok(failed == 0)
+}
+
+/// Holds the dialogues of a file's text. The first that goes another way ends it.
+fn hold_text(alloc: Global, text: &str) -> Result<Tally, Wrong> {
+    let mut talks = Talks::new(alloc);
+    for line in text.lines() {
+        talks.take(alloc, line)?;
+    }
+    talks.finish(alloc)?;
+    let mut tally = Tally::new(alloc);
+    tally.count = talks.count();
+    Ok(tally)
+}
+
+/// Types the keys of a file's text.
+fn type_keys(alloc: Global, text: &str) -> Result<Tally, Wrong> {
+    let mut rows = Rows::new(alloc);
+    for line in text.lines() {
+        rows.take(alloc, line)?;
+    }
+    rows.finish(alloc)
+}
+
+/// Reads the typed lines of a file's text.
+fn read_lines(alloc: Global, text: &str) -> Result<Tally, Wrong> {
+    let mut phrases = Phrases::new(alloc);
+    for line in text.lines() {
+        phrases.take(alloc, line)?;
+    }
+    phrases.finish(alloc)
 }

@@ -1,3 +1,4 @@
+// A dialogue that is written down.
 use p11_dialogue::Wish;
 use std::alloc::Global;
 

@@ -1,3 +1,4 @@
+// A file of dialogues.
 use crate::breaking::break_all;
 use crate::escapes::bytes_of;
 use crate::holding::hold_whole;
