@@ -1,1 +1,2 @@
+-- What a dialogue has done: lines tried with their answers, scripts asked for, and bytes typed.
 pub mod Deeds

@@ -1,3 +1,4 @@
+-- Words for people: what a typed line means, as lines of the language.
 pub mod Words
 pub mod Verbs
 pub mod Registers
