@@ -6,6 +6,15 @@ ghost use Rattle.p11_cpu.specs.Words.{width_of, plus, minus, complement, sign_ex
 use p11_alu::Size as Width;
 use p11_decode::Size;
 
+/// Names the copy for words of a function that is compiled once for each name.
+pub(crate) struct Words;
+
+/// Names the copy for bytes.
+pub(crate) struct Bytes;
+
+/// Names the copy for the word after the instruction.
+pub(crate) struct Immediate;
+
 /// The size as the arithmetic names it.
 #[inline(always)]
 pub(crate) fn width(size: Size) -> Width
