@@ -17,7 +17,8 @@ use Rattle.p11_psw.specs.declared.mode.Mode.TheVariants.{User}
 use Rattle.p11_psw.specs.declared.vector.Vector.TheVariants.{BusError}
 use Rattle.p11_rk11.specs.Memory.{Words, has_word, stored, word_at}
 use Rattle.p11_unibus.specs.Bus as bus
-use Rattle.p11_unibus.specs.Bus.{answered_or, changed_there, read_there, replaced_or, shown_or, transmitter_high_byte}
+use Rattle.p11_unibus.specs.Bus.{answered_or, replaced_or, shown_or, transmitter_high_byte}
+use Rattle.p11_unibus.specs.Calls.There.{changed_there, read_there}
 use Rattle.p11_unibus.specs.Bytes.{byte_at, even, with_byte}
 use Rattle.p11_unibus.specs.Registers as devices
 use Rattle.p11_unibus.specs.State.{BusState}

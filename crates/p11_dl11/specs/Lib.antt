@@ -6,6 +6,5 @@ pub mod TransmitterState
 pub mod TransmitterEvents
 pub mod LineState
 pub mod LineEvents
-pub mod Addresses
 pub mod Laws
 pub mod Calls

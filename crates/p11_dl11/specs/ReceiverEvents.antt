@@ -1,5 +1,5 @@
 -- What happens to the receiver.
-use Rattle.std.specs.Prelude.{ℕ, ◌+◌, ◌-◌, Bool, true, false, ◌&&◌, ◌||◌, not, List, [], ◌∷◌, ◌++◌, length, Option, Some, None, if◌then◌else◌, nat_le, max}
+use Rattle.std.specs.Prelude.{ℕ, ◌+◌, ◌-◌, Bool, true, false, ◌&&◌, ◌||◌, not, List, [], ◌∷◌, length, Option, Some, None, if◌then◌else◌, nat_le, max}
 use Rattle.p11_dl11.specs.ReceiverState.{ReceiverState}
 use Rattle.p11_dl11.specs.StatusRegister.{request_after_enable}
 
@@ -19,22 +19,10 @@ new_receiver = record { done = false; enable = false; request = false; character
 unfoldable pub receiver_after_init : ReceiverState → ReceiverState
 receiver_after_init r = record r { done = false; enable = false; request = false; character = 0 }
 
--- a key is pressed, and waits behind the others
-unfoldable pub receiver_after_key : ℕ → ReceiverState → ReceiverState
-receiver_after_key key r = record r { keys = r.keys ++ key ∷ [] }
-
--- a read of the buffer clears done and drops the request
-unfoldable pub receiver_after_read : ReceiverState → ReceiverState
-receiver_after_read r = record r { done = false; request = false }
-
 -- a write of the receiver status register with this enable
 unfoldable pub receiver_after_enable : Bool → ReceiverState → ReceiverState
 receiver_after_enable enable r =
     record r { enable = enable; request = request_after_enable r.request r.enable r.done enable }
-
--- the processor serves the receiver's interrupt
-unfoldable pub receiver_after_service : ReceiverState → ReceiverState
-receiver_after_service r = record r { request = false }
 
 -- The receiver takes the first key that waits, if any: it goes into the buffer, done is set, an interrupt is
 -- requested where enabled, and no other key is taken until it had its turns on the line.

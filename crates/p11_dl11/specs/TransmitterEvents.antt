@@ -1,9 +1,10 @@
 -- What happens to the transmitter.
-use Rattle.std.specs.Prelude.{ℕ, ◌+◌, Bool, false, ◌==◌, ◌||◌, Option, Some, None, if◌then◌else◌}
+use Rattle.std.specs.Prelude.{ℕ, ◌+◌, Bool, false, ◌||◌, Option, Some, None, option_map, if◌then◌else◌}
 use Rattle.p11_dl11.specs.declared.transmitter.Sending.{Sending}
 use Rattle.p11_dl11.specs.ReceiverEvents.{character_turns}
 use Rattle.p11_dl11.specs.StatusRegister.{request_after_enable}
 use Rattle.p11_dl11.specs.TransmitterState.{TransmitterState, is_ready}
+use Rattle.p11_words.specs.DueTurns.{is_due}
 
 -- a new machine's transmitter, and the state after INIT: ready, disabled, no request, a character being sent forgotten
 unfoldable pub new_transmitter : TransmitterState
@@ -24,31 +25,15 @@ sending_after (Some s) turn character = record { character = character; due = s.
 unfoldable pub transmitter_after_character : ℕ → ℕ → TransmitterState → TransmitterState
 transmitter_after_character turn character t = record t { sending = Some (sending_after t.sending turn character) }
 
--- the processor serves the transmitter's interrupt
-unfoldable pub transmitter_after_service : TransmitterState → TransmitterState
-transmitter_after_service t = record t { request = false }
+-- the turn in which a character is typed if nothing else happens
+unfoldable pub transmitter_due : TransmitterState → Option ℕ
+transmitter_due t = option_map (λ sent. sent.due) t.sending
 
 -- the character that is typed in this turn, if one is due in it
-abbrev pub typed_of : Option Sending → ℕ → Option ℕ
-typed_of None turn = None
-typed_of (Some s) turn = if s.due == turn then Some s.character else None
-
 unfoldable pub typed_in : ℕ → TransmitterState → Option ℕ
-typed_in turn t = typed_of t.sending turn
+typed_in turn t = if is_due turn (transmitter_due t) then option_map (λ sent. sent.character) t.sending else None
 
--- a character has been typed: the transmitter is ready, and requests an interrupt where enabled
-abbrev pub transmitter_after_typing : Option ℕ → TransmitterState → TransmitterState
-transmitter_after_typing None t = t
-transmitter_after_typing (Some character) t = record t { request = t.request || t.enable; sending = None }
-
--- the transmitter in this turn
+-- the transmitter in this turn: once a character is typed it is ready, and requests an interrupt where enabled
 unfoldable pub transmitter_after_turn : ℕ → TransmitterState → TransmitterState
-transmitter_after_turn turn t = transmitter_after_typing (typed_of t.sending turn) t
-
--- the turn in which a character is typed if nothing else happens
-abbrev pub due_of : Option Sending → Option ℕ
-due_of None = None
-due_of (Some s) = Some s.due
-
-unfoldable pub transmitter_due : TransmitterState → Option ℕ
-transmitter_due t = due_of t.sending
+transmitter_after_turn turn t =
+    if is_due turn (transmitter_due t) then record t { request = t.request || t.enable; sending = None } else t

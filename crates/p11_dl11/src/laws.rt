@@ -13,7 +13,7 @@ pub fn init_twice_is_init_once()
 {}
 
 /// Asked between a turn and the one after it, the line does nothing in a later turn that comes before its due turns.
-#[tactic(auto, unfolding(crate::specs::LineEvents::line_after_turn, crate::specs::ReceiverEvents::receiver_after_turn, crate::specs::ReceiverEvents::receiver_due, crate::specs::TransmitterEvents::transmitter_after_turn, crate::specs::TransmitterEvents::transmitter_due, crate::specs::TransmitterEvents::typed_in))]
+#[tactic(auto, unfolding(crate::specs::LineEvents::line_after_turn, crate::specs::ReceiverEvents::receiver_after_turn, crate::specs::ReceiverEvents::receiver_due, crate::specs::TransmitterEvents::transmitter_after_turn, crate::specs::TransmitterEvents::transmitter_due, crate::specs::TransmitterEvents::typed_in, p11_words::specs::DueTurns::is_due))]
 pub fn nothing_happens_before_due()
     ensures state { (l : LineState) (turn later : ℕ) → turn < later → IsBefore later (receiver_due turn l.receiver)
         → IsBefore later (transmitter_due l.transmitter) → line_after_turn later l ≡ l }
@@ -38,13 +38,13 @@ pub fn receiver_acts_when_due()
 {}
 
 /// The transmitter types a character in the turn that is due.
-#[tactic(auto, unfolding(crate::specs::TransmitterEvents::transmitter_due, crate::specs::TransmitterEvents::typed_in))]
+#[tactic(auto, unfolding(crate::specs::TransmitterEvents::transmitter_due, crate::specs::TransmitterEvents::typed_in, p11_words::specs::DueTurns::is_due))]
 pub fn transmitter_acts_when_due()
     ensures { (l : LineState) (due : ℕ) → transmitter_due l.transmitter ≡ Some due → typed_in due l.transmitter ≢ None }
 {}
 
 /// After its acts in a turn the line is due in later turns alone, if the transmitter was not due before that turn.
-#[tactic(auto, unfolding(crate::specs::LineEvents::line_after_turn, crate::specs::ReceiverEvents::receiver_after_turn, crate::specs::ReceiverEvents::receiver_due, crate::specs::TransmitterEvents::transmitter_after_turn, crate::specs::TransmitterEvents::transmitter_due, crate::specs::TransmitterEvents::typed_in))]
+#[tactic(auto, unfolding(crate::specs::LineEvents::line_after_turn, crate::specs::ReceiverEvents::receiver_after_turn, crate::specs::ReceiverEvents::receiver_due, crate::specs::TransmitterEvents::transmitter_after_turn, crate::specs::TransmitterEvents::transmitter_due, crate::specs::TransmitterEvents::typed_in, p11_words::specs::DueTurns::is_due))]
 pub fn due_turns_are_later()
     ensures keys { (l : LineState) (turn : ℕ) → IsBefore turn (receiver_due turn (line_after_turn turn l).receiver) }
     ensures characters { (l : LineState) (turn : ℕ) → IsNotAfter turn (transmitter_due l.transmitter)

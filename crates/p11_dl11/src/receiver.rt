@@ -1,6 +1,6 @@
 //! The receiver section: keys come in.
-ghost use Rattle.std.specs.Prelude.{◌≡◌, ◌≤◌, ◌<◌, ◌^◌, ◌+◌, length, IfOk};
-ghost use Rattle.p11_dl11.specs.ReceiverEvents.{new_receiver, receiver_after_enable, receiver_after_init, receiver_after_key, receiver_after_read, receiver_after_service, receiver_after_turn, receiver_due, receiver_room};
+ghost use Rattle.std.specs.Prelude.{◌≡◌, ◌≤◌, ◌<◌, ◌^◌, ◌+◌, ◌++◌, ◌∷◌, [], false, length, IfOk};
+ghost use Rattle.p11_dl11.specs.ReceiverEvents.{new_receiver, receiver_after_enable, receiver_after_init, receiver_after_turn, receiver_due, receiver_room};
 ghost use Rattle.p11_dl11.specs.StatusRegister.{section_word};
 ghost use Rattle.p11_dl11.specs.Calls.Taking.{takes_from};
 
@@ -52,7 +52,7 @@ impl<A: Allocator> Receiver<A> {
         })
     }
 
-    #[tactic(auto, unfolding(crate::specs::ReceiverEvents::receiver_after_init, crate::specs::ReceiverEvents::receiver_after_read))]
+    #[tactic(auto, unfolding(crate::specs::ReceiverEvents::receiver_after_init))]
     pub(crate) fn init(&mut self)
         ensures { self.new ≡ receiver_after_init self.old }
     {
@@ -69,10 +69,10 @@ impl<A: Allocator> Receiver<A> {
         (MOST_KEYS - self.keys.len()) as u32
     }
 
-    #[tactic(auto, unfolding(crate::specs::ReceiverEvents::receiver_after_key))]
+    /// A key waits behind the others.
     pub(crate) fn key(&mut self, key: u8)
         requires { length self.old.keys < 64 }
-        ensures { self.new ≡ receiver_after_key key self.old }
+        ensures { self.new ≡ record self.old { keys = self.old.keys ++ key ∷ [] } }
     {
         self.keys.push(key);
     }
@@ -89,9 +89,8 @@ impl<A: Allocator> Receiver<A> {
         u16::from(self.character)
     }
 
-    #[tactic(auto, unfolding(crate::specs::ReceiverEvents::receiver_after_read, crate::specs::ReceiverEvents::receiver_after_service))]
     pub(crate) fn read_character(&mut self)
-        ensures { self.new ≡ receiver_after_read self.old }
+        ensures { self.new ≡ record self.old { done = false; request = false } }
     {
         self.done = false;
         self.ack();
@@ -111,9 +110,8 @@ impl<A: Allocator> Receiver<A> {
         self.request
     }
 
-    #[tactic(auto, unfolding(crate::specs::ReceiverEvents::receiver_after_service))]
     pub(crate) fn ack(&mut self)
-        ensures { self.new ≡ receiver_after_service self.old }
+        ensures { self.new ≡ record self.old { request = false } }
     {
         self.request = false;
     }

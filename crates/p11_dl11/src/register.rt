@@ -1,6 +1,6 @@
 //! The console line's registers and their bus addresses.
 ghost use Rattle.std.specs.Prelude.{◌≡◌};
-ghost use Rattle.p11_dl11.specs.Addresses.{register_at};
+ghost use Rattle.p11_dl11.specs.Calls.Addresses.{register_at};
 
 /// A register of the console line: status and buffer of each section.
 #[derive(Clone, Copy)]
@@ -17,7 +17,7 @@ pub enum Register {
 
 impl Register {
     /// The register at a bus address of 18 bits, if it is one of the console line's.
-    #[tactic(auto, unfolding(crate::specs::Addresses::register_at))]
+    #[tactic(auto, unfolding(crate::specs::Calls::Addresses::register_at))]
     #[inline(always)]
     pub fn at(address: u32) -> Option<Register>
         ensures { result ≡ register_at address }

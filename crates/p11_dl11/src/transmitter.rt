@@ -1,11 +1,12 @@
 //! The transmitter section: characters are typed.
-ghost use Rattle.std.specs.Prelude.{◌≡◌, ◌≤◌, ◌^◌, is_some};
+ghost use Rattle.std.specs.Prelude.{◌≡◌, ◌≤◌, ◌^◌, false, is_some};
 ghost use Rattle.p11_dl11.specs.TransmitterState.{is_ready};
-ghost use Rattle.p11_dl11.specs.TransmitterEvents.{new_transmitter, sending_after, transmitter_after_character, transmitter_after_enable, transmitter_after_service, transmitter_after_turn, transmitter_due, typed_in, typed_of};
+ghost use Rattle.p11_dl11.specs.TransmitterEvents.{new_transmitter, sending_after, transmitter_after_character, transmitter_after_enable, transmitter_after_turn, transmitter_due, typed_in};
 ghost use Rattle.p11_dl11.specs.StatusRegister.{section_word};
 
 use crate::receiver::CHARACTER_TURNS;
 use crate::status::{requests, section_word};
+use p11_words::is_due;
 use std::marker::Model;
 
 /// A character that is being sent, with the turn in which it is typed.
@@ -44,16 +45,6 @@ fn sending_next(sending: Option<Sending>, turn: u64, character: u8) -> Sending
             character,
             due: sent.due,
         },
-    }
-}
-
-/// The character that is typed in this turn, if one is due in it.
-fn typed_now(sending: Option<Sending>, turn: u64) -> Option<u8>
-    ensures { result ≡ typed_of sending turn }
-{
-    match sending {
-        Some(sent) if sent.due == turn => Some(sent.character),
-        _ => None,
     }
 }
 
@@ -103,31 +94,42 @@ impl Transmitter {
         self.request
     }
 
-    #[tactic(auto, unfolding(crate::specs::TransmitterEvents::transmitter_after_service))]
     pub(crate) fn ack(&mut self)
-        ensures { self.new ≡ transmitter_after_service self.old }
+        ensures { self.new ≡ record self.old { request = false } }
     {
         self.request = false;
     }
 
+    /// The character that is typed in this turn, if one is due in it.
+    #[tactic(auto, unfolding(crate::specs::TransmitterEvents::transmitter_due, crate::specs::TransmitterEvents::typed_in, p11_words::specs::DueTurns::is_due))]
+    fn typed(&self, turn: u64) -> Option<u8>
+        ensures { result ≡ typed_in turn self.now }
+    {
+        match self.sending {
+            Some(sent) if sent.due == turn => Some(sent.character),
+            _ => None,
+        }
+    }
+
     /// Types the character that is due in this turn, if any.
-    #[tactic(auto, unfolding(crate::specs::TransmitterEvents::transmitter_after_turn, crate::specs::TransmitterEvents::typed_in))]
+    #[tactic(auto, unfolding(crate::specs::TransmitterEvents::transmitter_after_turn))]
     pub(crate) fn act(&mut self, turn: u64) -> Option<u8>
         ensures state { self.new ≡ transmitter_after_turn turn self.old }
         ensures typed { result ≡ typed_in turn self.old }
     {
-        let typed = typed_now(self.sending, turn)?;
-        self.request |= self.enable;
-        self.sending = None;
-        Some(typed)
+        let typed = self.typed(turn);
+        if is_due(turn, self.due()) {
+            self.request |= self.enable;
+            self.sending = None;
+        }
+        typed
     }
 
     /// Whether a character is due in this turn.
-    #[tactic(auto, unfolding(crate::specs::TransmitterEvents::typed_in))]
     pub(crate) fn types_in(&self, turn: u64) -> bool
         ensures { result ≡ is_some (typed_in turn self.now) }
     {
-        typed_now(self.sending, turn).is_some()
+        self.typed(turn).is_some()
     }
 
     /// The turn in which a character is typed, if nothing else happens.

@@ -1,2 +1,3 @@
 -- The KW11-L line clock.
 pub mod LineClock
+pub mod Calls

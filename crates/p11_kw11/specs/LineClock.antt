@@ -3,8 +3,6 @@
 use Rattle.std.specs.Prelude.{ℕ, ◌+◌, ◌/◌, ◌%◌, Bool, true, false, ◌==◌, ◌&&◌, ◌||◌, not, Option, Some, None, if◌then◌else◌}
 use Rattle.p11_words.specs.Bits.{flag, bit_of}
 use Rattle.p11_words.specs.DueTurns.{is_due}
-use Rattle.p11_kw11.specs.declared.register.Register.{Register}
-use Rattle.p11_kw11.specs.declared.register.Register.TheVariants.{Status}
 
 pub record LineClock : Type 0 where
   -- bit 7 of the status register: the line has ticked since the program last cleared the bit
@@ -17,10 +15,6 @@ pub record LineClock : Type 0 where
   pub period : ℕ
   -- the turn in which the line next ticks by itself, if it does
   pub due : Option ℕ
-
--- the register at a bus address, if it is the clock's
-unfoldable pub register_at : ℕ → Option Register
-register_at address = if address == 0o777546 then Some Status else None
 
 -- a new clock: monitor set, interrupts disabled, no request; the line doesn't tick by itself
 unfoldable pub new_clock : LineClock
@@ -39,17 +33,13 @@ clock_word k = flag k.monitor 0o200 + flag k.enable 0o100
 unfoldable pub clock_after_tick : LineClock → LineClock
 clock_after_tick k = record k { monitor = true; request = k.request || k.enable }
 
--- While interrupts are disabled there is no request. One is raised where enable rises while the monitor bit, as it
--- stands after the write, is 1.
-abbrev pub request_after_write : (monitor enable : Bool) → LineClock → Bool
-request_after_write monitor enable k = enable && (k.request || (monitor && not k.enable))
-
--- A write to the status register. A 0 in bit 7 clears the monitor bit, a 1 leaves it.
+-- A write to the status register. A 0 in bit 7 clears the monitor bit, a 1 leaves it. While interrupts are disabled
+-- there is no request. One is raised where enable rises while the monitor bit, as it stands after the write, is 1.
 unfoldable pub clock_after_write : ℕ → LineClock → LineClock
 clock_after_write word k =
     let monitor = k.monitor && bit_of word 0o200 in
     let enable = bit_of word 0o100 in
-    record k { monitor = monitor; enable = enable; request = request_after_write monitor enable k }
+    record k { monitor = monitor; enable = enable; request = enable && (k.request || (monitor && not k.enable)) }
 
 -- the processor serves the interrupt
 unfoldable pub clock_after_service : LineClock → LineClock

@@ -1,6 +1,6 @@
 //! The clock's register and its bus address.
 ghost use Rattle.std.specs.Prelude.{◌≡◌};
-ghost use Rattle.p11_kw11.specs.LineClock.{register_at};
+ghost use Rattle.p11_kw11.specs.Calls.Addresses.{register_at};
 
 /// A register of the line clock, which has one.
 #[derive(Clone, Copy, Debug, PartialEq, Eq)]
@@ -11,7 +11,7 @@ pub enum Register {
 
 impl Register {
     /// The register at a bus address of 18 bits, if it is the clock's.
-    #[tactic(auto, unfolding(crate::specs::LineClock::register_at))]
+    #[tactic(auto, unfolding(crate::specs::Calls::Addresses::register_at))]
     #[inline(always)]
     pub fn at(address: u32) -> Option<Register>
         ensures { result ≡ register_at address }

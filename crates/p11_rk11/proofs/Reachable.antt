@@ -1,6 +1,6 @@
 -- What every event keeps: a running transfer is on a mounted drive, and at a place on its pack.
-use Rattle.std.proofs.Common.{◌≡◌, ℕ, zero, suc, ◌+◌, ◌<◌, Bool, true, false, get_or, Option, Some, None, is_some, refl, sym, ap, subst, ◌∙◌, arith, inl, inr}
-use Rattle.std.specs.Prelude.{◌&&◌, ◌||◌, ◌==◌, not, nat_lt, nat_le, if◌then◌else◌}
+use Rattle.std.proofs.Common.{◌≡◌, ℕ, zero, suc, ◌+◌, ◌*◌, ◌/◌, ◌<◌, Bool, true, false, get_or, Option, Some, None, is_some, refl, sym, ap, subst, ◌∙◌, arith, inl, inr}
+use Rattle.std.specs.Prelude.{bit_or, ◌&&◌, ◌||◌, ◌==◌, not, nat_lt, nat_le, if◌then◌else◌}
 use Rattle.std.proofs.lemmas.Bool.{both_ways, cases_eq, eq-eqb, ltb-true, ne_eqb, cases_Bool}
 use Rattle.p11_overlay.specs.Drive.{Contents}
 use Rattle.p11_rk11.specs.declared.errors.Failure.{Failure}
@@ -12,17 +12,17 @@ use Rattle.p11_rk11.specs.declared.register.Register.TheVariants as register
 use Rattle.p11_rk11.specs.declared.registers.Registers.{Registers}
 use Rattle.p11_rk11.specs.Acts.{disk_after_turn, disk_after_transfer, disk_after_seek, disk_after_seeks, after_seek_on, after_sector_on, after_sector, registers_after_seek, is_refused, differs}
 use Rattle.p11_rk11.specs.Drives.{MountedDrive}
-use Rattle.p11_rk11.specs.Functions.{uses_place, is_reset}
+use Rattle.p11_rk11.specs.Functions.{uses_place, function_number}
 use Rattle.p11_rk11.specs.Laws.Registers.{TransferHasPlace}
 use Rattle.p11_rk11.specs.Memory.{Words}
 use Rattle.p11_rk11.specs.Place.{Place, next_place}
 use Rattle.p11_rk11.specs.Calls.Places.{is_on_disk}
-use Rattle.p11_rk11.specs.Registers.{is_ready, ended, failed, requested, cleared_registers, with_enable, with_control, enable_rises, registers_after_sector, next_sector_or_end, counters_advanced, with_difference, words_left}
+use Rattle.p11_rk11.specs.Registers.{is_ready, ended, failed, requested, cleared_registers, with_enable, with_control, registers_after_sector, counters_advanced, words_left}
 use Rattle.p11_words.specs.DueTurns.{is_due}
 use Rattle.p11_words.specs.Bits.{bit_of}
-use Rattle.p11_rk11.specs.Starts.{drive_check, registers_after_begin, after_check, after_start, after_start_on, registers_cleared_by_go, disk_after_start, disk_after_go, disk_after_control_write, disk_after_value_write, disk_after_write, registers_with_value}
+use Rattle.p11_rk11.specs.Starts.{drive_check, after_begin, after_check, after_start_on, disk_after_start, disk_after_go, disk_after_control_write, disk_after_write, registers_with_value}
 use Rattle.p11_rk11.specs.State.{Rk11State, drive_count, drive_of, with_drive, with_registers_and_drive, selected, new_disk, disk_after_init, disk_after_service, disk_after_mount, disk_after_unmount, is_busy, seek_turn}
-use Rattle.p11_rk11.proofs.Turns.{drive_put, drive_left}
+use Rattle.p11_rk11.proofs.Turns.{drive_put, drive_left, followed}
 
 other_drive : (a b : Bool) (k n : ℕ) → a || (b && (k == n)) ≡ false → b ≡ true → k ≡ n → ⊥
 other_drive true b k n free run e = cc free
@@ -84,8 +84,8 @@ unfolding drive_check is_on_disk
 checked_place r drive none uses = grind arith
 
 begun : (turn : ℕ) (f : Function) (drive : MountedDrive) (r : Registers) → (is_some r.transfer ≡ true → is_on_disk r.disk_address ≡ true) → (uses_place f ≡ true → is_on_disk r.disk_address ≡ true)
-    → ((registers_after_begin turn f drive r).disk_address ≡ r.disk_address) × (is_some (registers_after_begin turn f drive r).transfer ≡ true → is_on_disk r.disk_address ≡ true)
-unfolding registers_after_begin uses_place ended requested
+    → ((after_begin turn f r drive).0.disk_address ≡ r.disk_address) × (is_some (after_begin turn f r drive).0.transfer ≡ true → is_on_disk r.disk_address ≡ true)
+unfolding after_begin uses_place ended requested
 begun turn ControlReset drive r before place = (refl, before)
 begun turn Write drive r before place = (refl, λ run. place refl)
 begun turn Read drive r before place = (refl, λ run. place refl)
@@ -106,7 +106,7 @@ after_checks turn s drive None check is h =
 
 pub started_on : (turn : ℕ) (s : Rk11State) (d : Option MountedDrive) → selected s ≡ d → TransferHasPlace s
     → TransferHasPlace (with_registers_and_drive s s.registers.disk_address.drive (after_start_on turn s.registers d))
-unfolding after_start with_registers_and_drive failed ended requested
+unfolding with_registers_and_drive failed ended requested
 started_on turn s None is h = idle _ refl
 started_on turn s (Some drive) is h = after_checks turn s drive (drive_check s.registers drive) refl is h
 
@@ -122,11 +122,11 @@ started turn s none =
     ]
 
 gone : (turn : ℕ) (s : Rk11State) → s.registers.transfer ≡ None → TransferHasPlace (disk_after_go turn s)
-unfolding disk_after_go registers_cleared_by_go cleared_registers
+unfolding disk_after_go cleared_registers
 gone turn s none =
-    elim (cases_Bool (is_reset s.registers.function)) [
+    elim (cases_Bool (function_number s.registers.function == 0)) [
       | inl holds ↦ rw holds (idle _ refl)
-      | inr fails ↦ rw fails (started turn (record s { registers = registers_cleared_by_go s.registers }) none)
+      | inr fails ↦ rw fails (started turn (record s { registers = record s.registers { errors = s.registers.errors / 2 * 2; search_complete = false } }) none)
     ]
 
 control_written : (turn word : ℕ) (s : Rk11State) → TransferHasPlace s → TransferHasPlace (disk_after_control_write turn word s)
@@ -140,7 +140,7 @@ control_written turn word s h =
           (elim (cases_Bool (bit_of word 1)) [
             | inl go ↦ rw go (gone turn (record s { registers = with_control word (with_enable word s.registers) }) none)
             | inr stay ↦ rw stay
-                (elim (cases_Bool (enable_rises word s.registers)) [
+                (elim (cases_Bool (bit_of word 0o100 && not s.registers.enable)) [
                   | inl rises ↦ rw rises (idle _ none)
                   | inr flat ↦ rw flat (idle _ none)
                 ])
@@ -157,8 +157,8 @@ value_kept register.BusAddress word r = refl
 value_kept register.DiskAddress word r = refl
 value_kept register.DataBuffer word r = refl
 
-value_written : (register : Register) (word : ℕ) (s : Rk11State) → TransferHasPlace s → TransferHasPlace (disk_after_value_write register word s)
-unfolding disk_after_value_write
+value_written : (register : Register) (word : ℕ) (s : Rk11State) → TransferHasPlace s
+    → TransferHasPlace (if is_ready s.registers then record s { registers = registers_with_value register word s.registers } else s)
 value_written register word s h =
     elim (cases_Bool (is_ready s.registers)) [
       | inr fails ↦ rw fails h
@@ -188,35 +188,24 @@ next_drive p =
       | inr fails ↦ rw fails (elim (cases_Bool (p.surface == 0)) [ inl first ↦ rw first refl | inr second ↦ rw second refl ])
     ]
 
-followed_inside : (turn : ℕ) (was_last difference : Bool) (r : Registers)
-    → ((next_sector_or_end turn was_last difference r).disk_address ≡ r.disk_address)
-    × (is_some (next_sector_or_end turn was_last difference r).transfer ≡ true → r.disk_address.cylinder ≡ 203 → ⊥)
-unfolding next_sector_or_end ended requested failed
-followed_inside turn true difference r = (refl, λ run. not_running None refl run)
-followed_inside turn false difference r =
-    elim (cases_Bool (difference && r.stop_on_soft_error)) [
-      | inl stop ↦ rw stop (refl, λ run. not_running None refl run)
-      | inr on ↦
-          elim (cases_eq r.disk_address.cylinder 203) [
-            | inl over ↦ rw (on, eq-eqb r.disk_address.cylinder 203 over) (refl, λ run. not_running None refl run)
-            | inr inside ↦ rw (on, ne_eqb r.disk_address.cylinder 203 inside) (refl, λ run. inside)
-          ]
+followed_inside : (turn : ℕ) (ends : Bool) (r : Registers) → ((followed turn ends r).disk_address ≡ r.disk_address)
+    × (is_some (followed turn ends r).transfer ≡ true → r.disk_address.cylinder ≡ 203 → ⊥)
+unfolding ended requested failed
+followed_inside turn true r = (refl, λ run. not_running None refl run)
+followed_inside turn false r =
+    elim (cases_eq r.disk_address.cylinder 203) [
+      | inl over ↦ rw (eq-eqb r.disk_address.cylinder 203 over) (refl, λ run. not_running None refl run)
+      | inr inside ↦ rw (ne_eqb r.disk_address.cylinder 203 inside) (refl, λ run. inside)
     ]
-
-difference_place : (difference : Bool) (r : Registers) → (with_difference difference r).disk_address ≡ r.disk_address
-unfolding with_difference
-difference_place true r = refl
-difference_place false r = refl
 
 sector_followed : (turn : ℕ) (difference : Bool) (r : Registers) → is_on_disk r.disk_address ≡ true
     → ((registers_after_sector turn difference r).disk_address ≡ next_place r.disk_address)
     × (is_some (registers_after_sector turn difference r).transfer ≡ true → is_on_disk (next_place r.disk_address) ≡ true)
 unfolding registers_after_sector counters_advanced
 sector_followed turn difference r on =
-    let q : Registers = counters_advanced (with_difference difference r) in
-    let place : q.disk_address ≡ next_place r.disk_address = ap next_place (difference_place difference r) in
-    let f = followed_inside turn (nat_le (words_left r) 256) difference q in
-    (f.0 ∙ place, λ run. next_on_disk r.disk_address on (λ over. f.1 run (ap (λ (p : Place). p.cylinder) place ∙ over)))
+    let q : Registers = counters_advanced (record r { errors = if difference then bit_or r.errors 1 else r.errors }) in
+    let f = followed_inside turn (nat_le (words_left r) 256 || (difference && r.stop_on_soft_error)) q in
+    (f.0, λ run. next_on_disk r.disk_address on (λ over. f.1 run over))
 
 pub moved_on : (turn : ℕ) (s : Rk11State) (d : Option MountedDrive) (memory : Words) → selected s ≡ d → is_on_disk s.registers.disk_address ≡ true
     → TransferHasPlace (with_registers_and_drive s s.registers.disk_address.drive ((after_sector_on turn s.registers d memory).0, (after_sector_on turn s.registers d memory).1))

@@ -1,17 +1,19 @@
 -- Acts and due turns: nothing acts before it is due, and what has acted is due later or not at all.
 use Rattle.std.proofs.Common.{◌≡◌, ℕ, zero, suc, ◌+◌, ◌<◌, ◌≤◌, Bool, true, false, List, length, set, get_or, Option, Some, None, refl, sym, ap, subst, ◌∙◌, arith, inl, inr}
-use Rattle.std.specs.Prelude.{◌&&◌, ◌==◌, nat_lt, if◌then◌else◌}
+use Rattle.std.specs.Prelude.{bit_or, ◌&&◌, ◌||◌, ◌==◌, nat_le, nat_lt, if◌then◌else◌}
 use Rattle.std.proofs.lemmas.Bool.{both_ways, cases_lt, cases_eq, eq-eqb, lt-ltb, ne_eqb, cases_Bool}
 use Rattle.std.proofs.lemmas.List.{get_or_past, get_or-set_same, get_or-set_other, length-set}
 use Rattle.std.proofs.Math.Seq.{map-set_same}
 use Rattle.std.proofs.Math.ListN.{get_or-map}
 use Rattle.p11_rk11.specs.declared.registers.Registers.{Registers}
-use Rattle.p11_rk11.specs.Acts.{disk_after_turn, disk_after_transfer, disk_after_seek, disk_after_seeks, after_seek_on, after_sector_on, after_sector, drive_after_sector, drive_after_seek, drive_after_arrival, registers_after_seek, is_refused}
+use Rattle.p11_rk11.specs.Acts.{disk_after_turn, disk_after_transfer, disk_after_seek, disk_after_seeks, after_seek_on, after_sector_on, after_sector, drive_after_seek, registers_after_seek, differs, is_refused}
 use Rattle.p11_rk11.specs.Drives.{MountedDrive}
 use Rattle.p11_rk11.specs.Memory.{Words}
-use Rattle.p11_rk11.specs.Registers.{ended, failed, requested, registers_after_sector, next_sector_or_end}
+use Rattle.p11_rk11.specs.declared.errors.Failure.TheVariants.{Overrun}
+use Rattle.p11_rk11.specs.Registers.{counters_advanced, ended, failed, requested, registers_after_sector, words_left}
 use Rattle.p11_words.specs.DueTurns.{is_due}
-use Rattle.p11_rk11.specs.State.{Rk11State, drive_count, drive_of, with_drive, with_registers_and_drive, selected, seek_turn, seek_due, earlier, due_among, disk_due}
+use Rattle.p11_rk11.specs.State.{Rk11State, drive_count, drive_of, with_drive, with_registers_and_drive, selected, seek_turn, seek_due, earlier}
+use Rattle.p11_rk11.specs.Calls.Due.{due_among, disk_due}
 use Rattle.p11_rk11.specs.Laws.DueTurns.{IsBefore, IsNotAfter}
 use Rattle.p11_rk11.proofs.Parts.{set_get}
 
@@ -116,28 +118,33 @@ nothing_before_due s memory turn h =
     let each = before_each turn drive_count s h in
     rw (not_due turn s.registers.transfer each.0) (ap (λ (t : Rk11State). (t, memory)) (no_seeks turn drive_count s each.1))
 
+-- what follows a sector after which the registers are these
+abbrev pub followed : ℕ → Bool → Registers → Registers
+followed turn ends r =
+    if ends then ended r
+    else (if r.disk_address.cylinder == 203 then failed Overrun r else record r { transfer = Some (turn + 32) })
+
 -- A sector that moved is followed by one 32 turns later, or by none.
-followed : (turn : ℕ) (was_last difference : Bool) (r : Registers) → IsBefore turn (next_sector_or_end turn was_last difference r).transfer
-unfolding next_sector_or_end ended requested failed
-followed turn true difference r = tt
-followed turn false difference r =
-    elim (cases_Bool (difference && r.stop_on_soft_error)) [
-      | inl stop ↦ rw stop tt
-      | inr on ↦
-          elim (cases_Bool (r.disk_address.cylinder == 203)) [
-            | inl over ↦ rw (on, over) tt
-            | inr inside ↦ let later : turn < turn + 32 = omega arith in rw (on, inside) later
-          ]
+followed_later : (turn : ℕ) (ends : Bool) (r : Registers) → IsBefore turn (followed turn ends r).transfer
+unfolding ended requested failed
+followed_later turn true r = tt
+followed_later turn false r =
+    elim (cases_Bool (r.disk_address.cylinder == 203)) [
+      | inl over ↦ rw over tt
+      | inr inside ↦ let later : turn < turn + 32 = omega arith in rw inside later
     ]
 
 -- the seek of a drive whose sector moved
 moved_later : (turn : ℕ) (r : Registers) (d : Option MountedDrive) (memory : Words) → IsBefore turn (after_sector_on turn r d memory).0.transfer × (seek_due (after_sector_on turn r d memory).1 ≡ seek_due d)
-unfolding after_sector seek_due drive_after_sector ended requested failed registers_after_sector
+unfolding after_sector seek_due ended requested failed registers_after_sector
 moved_later turn r None memory = (tt, refl)
 moved_later turn r (Some drive) memory =
     elim (cases_Bool (is_refused r memory)) [
       | inl refused ↦ rw refused (tt, refl)
-      | inr moves ↦ rw moves (followed turn _ _ _, refl)
+      | inr moves ↦
+          let difference : Bool = differs r.function r drive.contents memory in
+          let moved : Registers = counters_advanced (record r { errors = if difference then bit_or r.errors 1 else r.errors }) in
+          rw moves (followed_later turn (nat_le (words_left r) 256 || (difference && r.stop_on_soft_error)) moved, refl)
     ]
 
 -- a drive that changes but for its seek leaves the due turns of all seeks
@@ -186,7 +193,7 @@ after_transfer s memory turn h =
 -- what becomes of a drive whose seek may be due
 sought : ℕ → Option MountedDrive → Option MountedDrive
 sought turn None = None
-sought turn (Some drive) = if is_due turn (seek_turn drive.seek) then Some (drive_after_arrival drive) else Some drive
+sought turn (Some drive) = if is_due turn (seek_turn drive.seek) then Some (drive_after_seek drive.seek drive) else Some drive
 
 seek_sought : (turn n : ℕ) (r : Registers) (d : Option MountedDrive) → ((after_seek_on turn n r d).0.transfer ≡ r.transfer) × ((after_seek_on turn n r d).1 ≡ sought turn d)
 unfolding sought registers_after_seek requested
@@ -197,8 +204,7 @@ seek_sought turn n r (Some drive) =
       | inr fails ↦ rw fails (refl, refl)
     ]
 
-arrival_ends : (drive : MountedDrive) → seek_turn (drive_after_arrival drive).seek ≡ None
-unfolding drive_after_arrival
+arrival_ends : (drive : MountedDrive) → seek_turn (drive_after_seek drive.seek drive).seek ≡ None
 arrival_ends drive = elim (drive.seek) as (λ seek. seek_turn (drive_after_seek seek (record drive { seek = seek })).seek ≡ None) [ None ↦ refl | Some seek ↦ refl ]
 
 sought_later : (turn : ℕ) (d : Option MountedDrive) → IsNotAfter turn (seek_due d) → IsBefore turn (seek_due (sought turn d))

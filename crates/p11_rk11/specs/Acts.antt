@@ -10,18 +10,13 @@ use Rattle.p11_rk11.specs.declared.function.Function.{Function}
 use Rattle.p11_rk11.specs.declared.function.Function.TheVariants.{Write, Read, WriteCheck}
 use Rattle.p11_rk11.specs.declared.mounted.PendingSeek.{PendingSeek}
 use Rattle.p11_rk11.specs.declared.registers.Registers.{Registers}
-use Rattle.p11_rk11.specs.Address.{word_address}
 use Rattle.p11_rk11.specs.Drives.{MountedDrive}
 use Rattle.p11_rk11.specs.Functions.{uses_memory, is_read}
 use Rattle.p11_rk11.specs.Memory.{Words, all_held, all_stored}
 use Rattle.p11_rk11.specs.Place.{sector_number}
-use Rattle.p11_rk11.specs.Registers.{ended, failed, requested, registers_after_sector, words_moved}
+use Rattle.p11_rk11.specs.Registers.{addresses, ended, failed, requested, registers_after_sector, words_moved}
 use Rattle.p11_rk11.specs.Sector.{words_of_sector, bytes_of_words, words_from, sector_from}
 use Rattle.p11_rk11.specs.State.{Rk11State, drive_count, drive_of, with_registers_and_drive, selected, seek_turn}
-
--- the address of each word of the sector
-abbrev pub addresses : Registers → ℕ → ℕ
-addresses r = word_address r.bus_address r.inhibit_increment
 
 -- the words of the drive's sector at RKDA
 abbrev pub sector_words : Registers → Contents → List ℕ
@@ -37,14 +32,6 @@ contents_after_sector Write r memory contents =
     written contents (sector_number r.disk_address) (bytes_of_words (sector_from (addresses r) (words_moved r) memory))
 contents_after_sector _ r memory contents = contents
 
--- Every moved sector brings the heads to its cylinder.
-unfoldable pub drive_after_sector : Registers → Words → MountedDrive → MountedDrive
-drive_after_sector r memory drive =
-    record drive {
-      contents = contents_after_sector r.function r memory drive.contents;
-      cylinder = r.disk_address.cylinder;
-    }
-
 -- A read stores the sector's first words in memory.
 unfoldable pub memory_after_sector : Function → Registers → Contents → Words → Words
 memory_after_sector Read r contents memory = all_stored (addresses r) (sector_words r contents) (words_moved r) memory
@@ -57,13 +44,17 @@ differs WriteCheck r contents memory =
     (take (words_moved r) (sector_words r contents)))
 differs _ r contents memory = false
 
--- One sector: where an address isn't memory, nothing moves, no counter does, and the function ends with no memory.
+-- One sector: where an address isn't memory, nothing moves, no counter does, and the function ends with no memory. Else
+-- the heads come to its cylinder.
 unfoldable pub after_sector : ℕ → Registers → MountedDrive → Words → Registers × MountedDrive × Words
 after_sector turn r drive memory =
     if is_refused r memory then (failed NoMemory r, drive, memory)
     else (
       registers_after_sector turn (differs r.function r drive.contents memory) r,
-      drive_after_sector r memory drive,
+      record drive {
+        contents = contents_after_sector r.function r memory drive.contents;
+        cylinder = r.disk_address.cylinder;
+      },
       memory_after_sector r.function r drive.contents memory,
     )
 
@@ -73,16 +64,12 @@ after_sector_on turn r None memory = (ended r, None, memory)
 after_sector_on turn r (Some drive) memory =
     let after = after_sector turn r drive memory in (after.0, Some after.1, after.2)
 
--- the registers, drive n and memory are changed together
-abbrev pub disk_and_memory_with : Rk11State → ℕ → Registers × Option MountedDrive × Words → Rk11State × Words
-disk_and_memory_with s n parts = (with_registers_and_drive s n (parts.0, parts.1), parts.2)
-
 -- the sector of a transfer, if it is due
 unfoldable pub disk_after_transfer : ℕ → Rk11State → Words → Rk11State × Words
 disk_after_transfer turn s memory =
+    let after = after_sector_on turn s.registers (selected s) memory in
     if is_due turn s.registers.transfer
-    then disk_and_memory_with s s.registers.disk_address.drive (after_sector_on turn s.registers (selected s) memory)
-    else (s, memory)
+    then (with_registers_and_drive s s.registers.disk_address.drive (after.0, after.1), after.2) else (s, memory)
 
 -- The addresses to which the acts of a turn may store: those of the words of a read's sector that is due.
 unfoldable pub stores_of : ℕ → Rk11State → List ℕ
@@ -95,9 +82,6 @@ abbrev pub drive_after_seek : Option PendingSeek → MountedDrive → MountedDri
 drive_after_seek None drive = drive
 drive_after_seek (Some seek) drive = record drive { cylinder = seek.cylinder; seek = None }
 
-unfoldable pub drive_after_arrival : MountedDrive → MountedDrive
-drive_after_arrival drive = drive_after_seek drive.seek drive
-
 unfoldable pub registers_after_seek : ℕ → Registers → Registers
 registers_after_seek n r = requested (record r { search_complete = true; finished_seek = n })
 
@@ -105,7 +89,7 @@ registers_after_seek n r = requested (record r { search_complete = true; finishe
 abbrev pub after_seek_on : ℕ → ℕ → Registers → Option MountedDrive → Registers × Option MountedDrive
 after_seek_on turn n r None = (r, None)
 after_seek_on turn n r (Some drive) =
-    if is_due turn (seek_turn drive.seek) then (registers_after_seek n r, Some (drive_after_arrival drive))
+    if is_due turn (seek_turn drive.seek) then (registers_after_seek n r, Some (drive_after_seek drive.seek drive))
     else (r, Some drive)
 
 unfoldable pub disk_after_seek : ℕ → ℕ → Rk11State → Rk11State

@@ -26,9 +26,6 @@ uses_place f = nat_le 1 (function_number f) && nat_le (function_number f) 5
 unfoldable pub uses_memory : Function → Bool
 uses_memory f = nat_le 1 (function_number f) && nat_le (function_number f) 3
 
-unfoldable pub is_reset : Function → Bool
-is_reset f = function_number f == 0
-
 unfoldable pub is_write : Function → Bool
 is_write f = function_number f == 1
 

@@ -1,31 +1,16 @@
 -- The controller's registers: what each shows, and what each event makes of them.
-use Rattle.std.specs.Prelude.{ℕ, ◌+◌, ◌-◌, ◌*◌, ◌/◌, ◌%◌, min, bit_or, Bool, false, not, ◌==◌, ◌&&◌, ◌||◌, nat_eq, nat_le, Option, Some, None, is_some, if◌then◌else◌, [], ◌∷◌}
-use Rattle.std.specs.Map.{lookup}
+use Rattle.std.specs.Prelude.{ℕ, ◌+◌, ◌-◌, ◌*◌, ◌/◌, ◌%◌, min, bit_or, Bool, false, not, ◌==◌, ◌&&◌, ◌||◌, nat_le, Some, None, is_some, if◌then◌else◌}
 use Rattle.p11_overlay.specs.Geometry.{cylinders, sector_words}
 use Rattle.p11_words.specs.Bits.{flag, bit_of}
 use Rattle.p11_rk11.specs.declared.registers.Registers.{Registers}
-use Rattle.p11_rk11.specs.declared.register.Register.{Register}
-use Rattle.p11_rk11.specs.declared.register.Register.TheVariants as register
 use Rattle.p11_rk11.specs.declared.errors.Failure.{Failure}
 use Rattle.p11_rk11.specs.declared.errors.Failure.TheVariants.{Overrun}
 use Rattle.p11_rk11.specs.declared.function.Function.TheVariants.{ControlReset}
-use Rattle.p11_rk11.specs.Address.{address_after}
+use Rattle.p11_rk11.specs.Address.{word_address}
 use Rattle.p11_rk11.specs.Drives.{sector_turns}
 use Rattle.p11_rk11.specs.Errors.{error_bit}
 use Rattle.p11_rk11.specs.Functions.{function_of, function_number, uses_memory}
 use Rattle.p11_rk11.specs.Place.{place_of_word, next_place}
-
--- Nothing answers at 777414.
-unfoldable pub register_at : ℕ → Option Register
-register_at address =
-    lookup (nat_eq address)
-    ((0o777400, register.DriveStatus)
-    ∷ (0o777402, register.Error)
-    ∷ (0o777404, register.ControlStatus)
-    ∷ (0o777406, register.WordCount)
-    ∷ (0o777410, register.BusAddress)
-    ∷ (0o777412, register.DiskAddress)
-    ∷ (0o777416, register.DataBuffer) ∷ [])
 
 -- INIT and a control reset clear every register and drop the request; the controller is then ready,
 -- as it is whenever no transfer runs.
@@ -63,9 +48,6 @@ control_word r =
 unfoldable pub with_enable : ℕ → Registers → Registers
 with_enable word r = record r { enable = bit_of word 0o100; request = bit_of word 0o100 && r.request }
 
-unfoldable pub enable_rises : ℕ → Registers → Bool
-enable_rises word r = bit_of word 0o100 && not r.enable
-
 -- While ready it takes bits 5:1, 8, 10 and 11 as well.
 unfoldable pub with_control : ℕ → Registers → Registers
 with_control word r =
@@ -97,35 +79,27 @@ words_left r = 0o200000 - r.word_count
 unfoldable pub words_moved : Registers → ℕ
 words_moved r = min sector_words (words_left r)
 
--- After a sector moved, RKWC grows by its words; the memory address does so for the functions that use
--- memory, unless increment is inhibited; RKDA goes to the next sector.
+-- the address of each word of the sector
+abbrev pub addresses : Registers → ℕ → ℕ
+addresses r = word_address r.bus_address r.inhibit_increment
+
+-- After a sector moved, RKWC grows by its words; the memory address is, for the functions that use memory, that of the
+-- word after them; RKDA goes to the next sector.
 unfoldable pub counters_advanced : Registers → Registers
 counters_advanced r =
     record r {
       word_count = (r.word_count + words_moved r) % 0o200000;
-      bus_address =
-          if uses_memory r.function && not r.inhibit_increment
-          then address_after r.bus_address (words_moved r)
-          else r.bus_address;
+      bus_address = if uses_memory r.function then addresses r (words_moved r) else r.bus_address;
       disk_address = next_place r.disk_address;
     }
 
--- RKER 0 is set where the words of a write check differed
-unfoldable pub with_difference : Bool → Registers → Registers
-with_difference differs r = if differs then record r { errors = bit_or r.errors 1 } else r
-
--- What follows a moved sector: the function ends where no words were left behind it, else where words differed and RKCS
--- 8 stops on that, else with overrun where RKDA is past the last cylinder; else the next sector is due 32 turns later.
-unfoldable pub next_sector_or_end : ℕ → Bool → Bool → Registers → Registers
-next_sector_or_end turn was_last differs r =
-    if was_last then ended r
-    else (if differs && r.stop_on_soft_error then ended r
-    else (if r.disk_address.cylinder == cylinders then failed Overrun r
-    else record r { transfer = Some (turn + sector_turns) }))
-
--- The registers after a sector moved. Whether it was the last is judged by the words left before it, all else by the
--- counters after it.
+-- The registers after a sector moved. RKER 0 is set where the words of a write check differed, and the counters go on.
+-- The function ends where the words left before the sector were no more than it has, or where words differed and RKCS 8
+-- stops on that; else with overrun where RKDA, after the sector, is past the last cylinder; else the next sector is due
+-- 32 turns later.
 unfoldable pub registers_after_sector : ℕ → Bool → Registers → Registers
 registers_after_sector turn differs r =
-    let was_last = nat_le (words_left r) sector_words in
-    next_sector_or_end turn was_last differs (counters_advanced (with_difference differs r))
+    let moved = counters_advanced (record r { errors = if differs then bit_or r.errors 1 else r.errors }) in
+    if nat_le (words_left r) sector_words || (differs && r.stop_on_soft_error) then ended moved
+    else (if moved.disk_address.cylinder == cylinders then failed Overrun moved
+    else record moved { transfer = Some (turn + sector_turns) })

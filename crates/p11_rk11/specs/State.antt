@@ -1,5 +1,5 @@
 -- The controller with its drives, and what is seen of it between acts.
-use Rattle.std.specs.Prelude.{ℕ, zero, suc, ◌+◌, ◌*◌, ◌%◌, min, nat_lt, Bool, false, not, ◌==◌, ◌&&◌, ◌||◌, List, Option, Some, None, is_some, slice_index_or, slice_set, replicate, map, if◌then◌else◌}
+use Rattle.std.specs.Prelude.{ℕ, ◌+◌, ◌*◌, ◌%◌, min, nat_lt, Bool, false, not, ◌==◌, ◌&&◌, ◌||◌, List, Option, Some, None, is_some, option_map, option_and_then, slice_index_or, slice_set, replicate, map, if◌then◌else◌}
 use Rattle.p11_overlay.specs.Drive.{Contents}
 use Rattle.p11_overlay.specs.Geometry.{track_sectors}
 use Rattle.p11_words.specs.Bits.{flag}
@@ -39,17 +39,13 @@ selected s = drive_of s s.registers.disk_address.drive
 unfoldable pub new_disk : Rk11State
 new_disk = record { registers = cleared_registers; drives = replicate drive_count None }
 
--- RKDS of a mounted drive, but for 15:13: 3:0 the sector counter, 4 it equals RKDA 3:0, 5 write protect,
+-- RKDS, but for 15:13. It is 0 for an empty drive; else 3:0 the sector counter, 4 it equals RKDA 3:0, 5 write protect,
 -- 6 read/write/seek ready unless the drive seeks, 7 drive ready, 8 counter good, 11 RK05
-unfoldable pub drive_status : ℕ → ℕ → MountedDrive → ℕ
-drive_status turn sector drive =
-    turn % track_sectors + flag (turn % track_sectors == sector) 0o20 + flag drive.contents.protected 0o40
-    + flag (not (is_some drive.seek)) 0o100 + 0o200 + 0o400 + 0o4000
-
--- the same, 0 for an empty drive
 unfoldable pub status_of : ℕ → ℕ → Option MountedDrive → ℕ
 status_of turn sector None = 0
-status_of turn sector (Some drive) = drive_status turn sector drive
+status_of turn sector (Some drive) =
+    turn % track_sectors + flag (turn % track_sectors == sector) 0o20 + flag drive.contents.protected 0o40
+    + flag (not (is_some drive.seek)) 0o100 + 0o200 + 0o400 + 0o4000
 
 -- the word that a register shows in a turn
 unfoldable pub disk_word : ℕ → Register → Rk11State → ℕ
@@ -64,13 +60,11 @@ disk_word turn register.DataBuffer s = 0
 
 -- the turn in which a seek is done
 abbrev pub seek_turn : Option PendingSeek → Option ℕ
-seek_turn None = None
-seek_turn (Some seek) = Some seek.due
+seek_turn = option_map (λ seek. seek.due)
 
 -- the due turn of a drive's seek
 unfoldable pub seek_due : Option MountedDrive → Option ℕ
-seek_due None = None
-seek_due (Some drive) = seek_turn drive.seek
+seek_due = option_and_then (λ drive. seek_turn drive.seek)
 
 -- the earlier of two due turns
 unfoldable pub earlier : Option ℕ → Option ℕ → Option ℕ
@@ -78,40 +72,25 @@ earlier None due = due
 earlier (Some a) None = Some a
 earlier (Some a) (Some b) = Some (min a b)
 
--- the earliest due turn of the transfer and the seeks of the first n drives
-unfoldable pub due_among : ℕ → Rk11State → Option ℕ
-due_among zero s = s.registers.transfer
-due_among (suc n) s = earlier (due_among n s) (seek_due (drive_of s n))
-
--- the earliest turn in which the transfer or a seek acts
-unfoldable pub disk_due : Rk11State → Option ℕ
-disk_due s = due_among drive_count s
-
 -- A drive is busy while it seeks or the running transfer is on it.
 unfoldable pub is_busy : ℕ → Rk11State → Bool
 is_busy n s = is_some (seek_due (drive_of s n)) || (is_some s.registers.transfer && s.registers.disk_address.drive == n)
 
 -- what the pack of a drive holds
 abbrev pub contents_of : Option MountedDrive → Option Contents
-contents_of None = None
-contents_of (Some drive) = Some drive.contents
-
--- Mounting puts the heads at cylinder 0.
-unfoldable pub drive_after_mount : Contents → MountedDrive
-drive_after_mount contents = record { contents = contents; cylinder = 0; seek = None }
+contents_of = option_map (λ drive. drive.contents)
 
 -- INIT for one drive: a seek ends, and its heads stay where they were before it
 abbrev pub drive_after_init : Option MountedDrive → Option MountedDrive
-drive_after_init None = None
-drive_after_init (Some drive) = Some (record drive { seek = None })
+drive_after_init = option_map (λ (drive : MountedDrive). record drive { seek = None })
 
 -- INIT clears the registers, and so ends a transfer; it ends all seeks.
 unfoldable pub disk_after_init : Rk11State → Rk11State
 disk_after_init s = record { registers = cleared_registers; drives = map drive_after_init s.drives }
 
--- a pack is mounted on drive n
+-- A pack is mounted on drive n, whose heads are then at cylinder 0.
 unfoldable pub disk_after_mount : ℕ → Contents → Rk11State → Rk11State
-disk_after_mount n contents s = with_drive s n (Some (drive_after_mount contents))
+disk_after_mount n contents s = with_drive s n (Some (record { contents = contents; cylinder = 0; seek = None }))
 
 -- the pack of drive n is taken off
 unfoldable pub disk_after_unmount : ℕ → Rk11State → Rk11State

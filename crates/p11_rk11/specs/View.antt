@@ -1,5 +1,6 @@
 -- When a disk write needs memory.
-use Rattle.std.specs.Prelude.{ℕ, Bool, true, ◌&&◌, not, nat_eq, Option, Some, None}
+use Rattle.std.specs.Prelude.{ℕ, Bool, true, ◌&&◌, not, nat_eq, Option}
+use Rattle.std.specs.Option.{option_map_or}
 use Rattle.std.specs.List.{list_any}
 use Rattle.p11_words.specs.DueTurns.{is_due}
 use Rattle.p11_rk11.specs.Drives.{MountedDrive}
@@ -13,8 +14,7 @@ write_is_due turn s = is_due turn s.registers.transfer && is_write s.registers.f
 
 -- whether sector n of a drive is among the changed ones, whose writes need no memory; nor does one on an empty drive
 abbrev pub is_listed : Option MountedDrive → ℕ → Bool
-is_listed None n = true
-is_listed (Some drive) n = list_any (nat_eq n) drive.contents.changed
+is_listed drive n = option_map_or (λ drive. list_any (nat_eq n) drive.contents.changed) drive true
 
 -- whether a turn's acts may need memory: a disk write's sector is due that isn't among the changed ones
 unfoldable pub needs_memory : ℕ → Rk11State → Bool

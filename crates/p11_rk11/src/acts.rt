@@ -1,6 +1,7 @@
 //! The acts of a turn: the memory that they may need, the transfer's sector, and the seeks that are done.
 ghost use Rattle.std.specs.Prelude.{◌≡◌, ◌<◌, ◌≤◌, ◌^◌, ◌+◌, true, false, OnOk, OnErr, IsOk};
-ghost use Rattle.p11_rk11.specs.Acts.{disk_after_turn, after_sector_on, disk_and_memory_with, disk_after_transfer, stores_of, disk_after_seek, disk_after_seeks};
+ghost use Rattle.p11_rk11.specs.Acts.{disk_after_turn, after_sector_on, disk_after_transfer, stores_of, disk_after_seek, disk_after_seeks};
+ghost use Rattle.p11_rk11.specs.Calls.Parts.{disk_and_memory_with};
 ghost use Rattle.p11_rk11.specs.Calls.Places.{is_on_disk};
 ghost use Rattle.p11_rk11.specs.Place.{sector_number};
 ghost use Rattle.p11_words.specs.DueTurns.{is_due};

@@ -1,6 +1,6 @@
 //! The memory address of a transfer.
 ghost use Rattle.std.specs.Prelude.{◌≡◌, ◌<◌, ◌≤◌, ◌+◌, ◌*◌, ◌/◌, ◌%◌};
-ghost use Rattle.p11_rk11.specs.Address.{address_after, word_address};
+ghost use Rattle.p11_rk11.specs.Address.{word_address};
 
 use std::marker::Model;
 
@@ -57,21 +57,24 @@ impl BusAddress {
         BusAddress(self.0 / 0o200000 * 0o200000 + u32::from(word) / 2 * 2)
     }
 
-    /// The address so many words on; past 777776 comes 0.
-    #[tactic(auto, unfolding(crate::specs::Address::address_after))]
-    pub(crate) fn after(self, words: u32) -> BusAddress
+    /// The address so many words on, where past 777776 comes 0, or always the same one.
+    #[tactic(auto, unfolding(crate::specs::Address::word_address))]
+    pub(crate) fn after(self, stays: bool, words: u32) -> BusAddress
         requires { words ≤ 256 }
-        ensures { result ≡ address_after self words }
+        ensures { result ≡ word_address self stays words }
     {
-        BusAddress((self.0 + 2 * words) % 0o1000000)
+        if stays {
+            self
+        } else {
+            BusAddress((self.0 + 2 * words) % 0o1000000)
+        }
     }
 
     /// The address of word `k` of a sector: the next word's each time, or always the first word's.
-    #[tactic(auto, unfolding(crate::specs::Address::word_address))]
     pub(crate) fn of_word(self, stays: bool, k: u32) -> u32
         requires { k ≤ 256 }
         ensures { result ≡ word_address self stays k }
     {
-        if stays { self.0 } else { self.after(k).0 }
+        self.after(stays, k).0
     }
 }

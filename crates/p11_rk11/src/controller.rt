@@ -1,7 +1,9 @@
 //! The controller with its drives: what its registers show, writes of them, INIT, and the packs.
-ghost use Rattle.std.specs.Prelude.{◌≡◌, ◌<◌, ◌≤◌, ◌^◌, ◌+◌, ◌*◌, Some, is_some, true, false, option_copied, slice_set, [], replicate};
-ghost use Rattle.p11_rk11.specs.Starts.{disk_after_write, disk_after_control_write, disk_after_value_write, disk_after_go, disk_after_start, after_start_on};
-ghost use Rattle.p11_rk11.specs.State.{new_disk, disk_word, drive_of, selected, with_drive, with_registers_and_drive, disk_due, seek_due, is_busy, contents_of, disk_after_init, disk_after_mount, disk_after_unmount, drive_count, drive_after_init, disk_after_service, status_of, earlier};
+ghost use Rattle.std.specs.Prelude.{◌≡◌, ◌<◌, ◌≤◌, ◌^◌, ◌+◌, ◌*◌, Some, is_some, true, false, option_copied, slice_set, [], replicate, if◌then◌else◌};
+ghost use Rattle.p11_rk11.specs.Registers.{is_ready};
+ghost use Rattle.p11_rk11.specs.Starts.{disk_after_write, disk_after_control_write, registers_with_value, disk_after_go, disk_after_start, after_start_on};
+ghost use Rattle.p11_rk11.specs.State.{new_disk, disk_word, drive_of, selected, with_drive, with_registers_and_drive, seek_due, is_busy, contents_of, disk_after_init, disk_after_mount, disk_after_unmount, drive_count, drive_after_init, disk_after_service, status_of, earlier};
+ghost use Rattle.p11_rk11.specs.Calls.Due.{disk_due};
 ghost use Rattle.p11_rk11.specs.Calls.Heads.{heads_at};
 
 use crate::bay;
@@ -120,9 +122,10 @@ impl<A: Allocator> Rk11<A> {
     }
 
     /// Writes a register other than RKCS, which is ignored while not ready.
-    #[tactic(auto, unfolding(crate::specs::Starts::disk_after_value_write))]
     fn write_value(&mut self, register: Register, word: u16)
-        ensures state { self.new.state ≡ disk_after_value_write register word self.old.state }
+        ensures state { self.new.state ≡ (if is_ready self.old.state.registers
+            then record self.old.state { registers = registers_with_value register word self.old.state.registers }
+            else self.old.state) }
         ensures prepared { self.new.prepared ≡ self.old.prepared }
     {
         if self.registers.is_ready() {
@@ -131,7 +134,7 @@ impl<A: Allocator> Rk11<A> {
     }
 
     /// Writes RKCS.
-    #[tactic(auto, unfolding(crate::specs::Starts::disk_after_control_write))]
+    #[tactic(auto, unfolding(crate::specs::Starts::disk_after_control_write, crate::specs::Registers::with_enable))]
     fn write_control(&mut self, turn: u64, word: u16)
         requires { turn ≤ 2 ^ 62 }
         ensures state { self.new.state ≡ disk_after_control_write turn word self.old.state }
@@ -193,7 +196,7 @@ impl<A: Allocator> Rk11<A> {
     }
 
     /// The earliest turn in which the transfer or a seek acts, if one is under way.
-    #[tactic(auto, unfolding(crate::specs::State::disk_due))]
+    #[tactic(auto, unfolding(crate::specs::Calls::Due::disk_due))]
     pub fn due(&self) -> Option<u64>
         ensures { result ≡ disk_due self.now.state }
     {

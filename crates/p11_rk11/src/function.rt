@@ -1,6 +1,6 @@
 //! The functions of the controller.
-ghost use Rattle.std.specs.Prelude.{◌≡◌, ◌<◌};
-ghost use Rattle.p11_rk11.specs.Functions.{function_of, function_number, uses_place, uses_memory, is_write, is_read, is_reset};
+ghost use Rattle.std.specs.Prelude.{◌≡◌, ◌<◌, ◌==◌};
+ghost use Rattle.p11_rk11.specs.Functions.{function_of, function_number, uses_place, uses_memory, is_write, is_read};
 
 /// The functions of RKCS 3:1, in the order of their numbers.
 #[derive(Clone, Copy)]
@@ -83,9 +83,8 @@ impl Function {
     }
 
     /// Whether it is the control reset.
-    #[tactic(auto, unfolding(crate::specs::Functions::is_reset))]
     pub(crate) fn is_reset(self) -> bool
-        ensures { result ≡ is_reset self }
+        ensures { result ≡ (function_number self == 0) }
     {
         self.number() == 0
     }

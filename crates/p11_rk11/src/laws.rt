@@ -7,12 +7,13 @@ ghost use Rattle.p11_rk11.specs.Functions.{is_read};
 ghost use Rattle.p11_rk11.specs.Laws.Registers.{TransferHasPlace, ShowsItsBits};
 ghost use Rattle.p11_rk11.specs.Memory.{Words, has_word, word_at};
 ghost use Rattle.p11_rk11.specs.Place.{Place, sector_number, next_place};
+ghost use Rattle.p11_rk11.specs.Calls.Due.{disk_due};
 ghost use Rattle.p11_rk11.specs.Calls.Places.{is_on_disk};
 ghost use Rattle.p11_rk11.specs.Laws.Places.{place_of_number};
 ghost use Rattle.p11_rk11.specs.Sector.{bytes_of_words, words_of_sector};
 ghost use Rattle.p11_rk11.specs.Starts.{disk_after_write};
 ghost use Rattle.p11_rk11.specs.declared.register.Register.{Register};
-ghost use Rattle.p11_rk11.specs.State.{Rk11State, drive_count, disk_after_init, disk_after_mount, disk_after_service, disk_after_unmount, disk_due, is_busy, new_disk};
+ghost use Rattle.p11_rk11.specs.State.{Rk11State, drive_count, disk_after_init, disk_after_mount, disk_after_service, disk_after_unmount, is_busy, new_disk};
 ghost use Rattle.p11_rk11.specs.Laws.DueTurns.{IsBefore, IsNotAfter};
 
 use crate::controller::DRIVES;

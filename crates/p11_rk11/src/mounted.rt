@@ -3,14 +3,14 @@ ghost use Rattle.std.specs.Prelude.{◌≡◌, ℕ, ◌+◌, ◌<◌, ◌≤◌,
 ghost use Rattle.std.specs.List.{list_any};
 ghost use Rattle.p11_rk11.specs.Drives.{MountedDrive};
 ghost use Rattle.p11_rk11.specs.Kept.View.{MountedState};
-ghost use Rattle.p11_rk11.specs.Acts.{contents_after_sector, drive_after_sector, memory_after_sector, differs, is_refused, after_sector, drive_after_arrival, addresses};
+ghost use Rattle.p11_rk11.specs.Acts.{contents_after_sector, memory_after_sector, differs, is_refused, after_sector, drive_after_seek};
 ghost use Rattle.p11_rk11.specs.Functions.{is_write, uses_memory, uses_place};
 ghost use Rattle.p11_rk11.specs.Memory.{all_held};
-ghost use Rattle.p11_rk11.specs.Registers.{words_moved};
+ghost use Rattle.p11_rk11.specs.Registers.{addresses, words_moved};
 ghost use Rattle.p11_rk11.specs.Calls.Places.{is_on_disk};
 ghost use Rattle.p11_rk11.specs.Place.{sector_number};
-ghost use Rattle.p11_rk11.specs.Starts.{drive_check, seeking, drive_after_begin, registers_after_begin, after_start, arrival};
-ghost use Rattle.p11_rk11.specs.State.{drive_status, seek_turn, drive_after_mount};
+ghost use Rattle.p11_rk11.specs.Starts.{drive_check, seeking, after_begin, after_check, arrival};
+ghost use Rattle.p11_rk11.specs.State.{status_of, seek_turn};
 ghost use Rattle.p11_rk11.specs.Calls.Heads.{heads_at};
 
 use crate::controller::Heads;
@@ -55,9 +55,8 @@ impl<A: Allocator> Model for Mounted<A> {
 
 impl<A: Allocator> Mounted<A> {
     /// A drive on which a pack was mounted just now.
-    #[tactic(auto, unfolding(crate::specs::State::drive_after_mount))]
     pub(crate) fn new(drive: Drive<A>) -> Self
-        ensures visible { result.visible ≡ drive_after_mount drive.contents }
+        ensures visible { result.visible ≡ record { contents = drive.contents; cylinder = 0; seek = None } }
         ensures prepared { result.prepared ≡ drive.prepared }
     {
         Mounted {
@@ -95,9 +94,9 @@ impl<A: Allocator> Mounted<A> {
     }
 
     /// RKDS but for its bits 15:13.
-    #[tactic(auto, unfolding(crate::specs::State::drive_status))]
+    #[tactic(auto, unfolding(crate::specs::State::status_of))]
     pub(crate) fn status(&self, turn: u64, sector: u8) -> u16
-        ensures value { result ≡ drive_status turn sector self.now.visible }
+        ensures value { result ≡ status_of turn sector (Some self.now.visible) }
         ensures bound { result < 0o20000 }
     {
         let counter = (turn % 12) as u16;
@@ -153,14 +152,12 @@ impl<A: Allocator> Mounted<A> {
     }
 
     /// Begins a function whose checks have passed.
-    #[tactic(auto, unfolding(crate::specs::Functions::uses_place, crate::specs::Starts::drive_after_begin, crate::specs::Starts::registers_after_begin))]
+    #[tactic(auto, unfolding(crate::specs::Functions::uses_place, crate::specs::Starts::after_begin))]
     pub(crate) fn begin(&mut self, turn: u64, registers: &mut Registers)
         requires turn { turn ≤ 2 ^ 62 }
         requires place { uses_place registers.old.function ≡ true → is_on_disk registers.old.disk_address ≡ true }
-        ensures visible { self.new.visible
-            ≡ drive_after_begin turn registers.old.disk_address registers.old.function self.old.visible }
-        ensures registers { registers.new
-            ≡ registers_after_begin turn registers.old.function self.old.visible registers.old }
+        ensures begun { after_begin turn registers.old.function registers.old self.old.visible
+            ≡ (registers.new, self.new.visible) }
         ensures prepared { self.new.prepared ≡ self.old.prepared }
     {
         match registers.function {
@@ -185,10 +182,10 @@ impl<A: Allocator> Mounted<A> {
     }
 
     /// A function that GO begins, unless a check holds.
-    #[tactic(auto, unfolding(crate::specs::Starts::after_start))]
     pub(crate) fn start(&mut self, turn: u64, registers: &mut Registers)
         requires { turn ≤ 2 ^ 62 }
-        ensures started { after_start turn registers.old self.old.visible ≡ (registers.new, self.new.visible) }
+        ensures started { after_check turn registers.old self.old.visible (drive_check registers.old self.old.visible)
+            ≡ (registers.new, self.new.visible) }
         ensures prepared { self.new.prepared ≡ self.old.prepared }
     {
         match self.check(registers) {
@@ -198,9 +195,8 @@ impl<A: Allocator> Mounted<A> {
     }
 
     /// The heads have come to where a seek sent them.
-    #[tactic(auto, unfolding(crate::specs::Acts::drive_after_arrival))]
     pub(crate) fn arrive(&mut self)
-        ensures visible { self.new.visible ≡ drive_after_arrival self.old.visible }
+        ensures visible { self.new.visible ≡ drive_after_seek self.old.visible.seek self.old.visible }
         ensures prepared { self.new.prepared ≡ self.old.prepared }
     {
         if let Some(seek) = self.seek {
@@ -274,7 +270,7 @@ impl<A: Allocator> Mounted<A> {
     }
 
     /// Moves one sector of a transfer, or ends the function where an address isn't memory.
-    #[tactic(auto, unfolding(crate::specs::Acts::after_sector, crate::specs::Acts::drive_after_sector))]
+    #[tactic(auto, unfolding(crate::specs::Acts::after_sector))]
     pub(crate) fn move_sector<M: WordMemory>(
         &mut self,
         turn: u64,

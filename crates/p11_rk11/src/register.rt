@@ -1,6 +1,6 @@
 //! The controller's registers and their bus addresses.
 ghost use Rattle.std.specs.Prelude.{◌≡◌};
-ghost use Rattle.p11_rk11.specs.Registers.{register_at};
+ghost use Rattle.p11_rk11.specs.Calls.Addresses.{register_at};
 
 /// A register of the controller. Each has a word in the I/O page.
 #[derive(Clone, Copy, PartialEq, Eq, Debug)]
@@ -23,7 +23,8 @@ pub enum Register {
 
 impl Register {
     /// The register that answers at an even address of 18 bits, if one does. Nothing answers at 777414.
-    #[tactic(auto, unfolding(crate::specs::Registers::register_at))]
+    #[tactic(auto, unfolding(crate::specs::Calls::Addresses::register_at))]
+    #[inline(always)]
     pub fn at(address: u32) -> Option<Register>
         ensures { result ≡ register_at address }
     {

@@ -1,9 +1,10 @@
 //! The controller's registers as their parts, and what each event makes of them.
-ghost use Rattle.std.specs.Prelude.{◌≡◌, ◌<◌, ◌≤◌, ◌+◌, ◌^◌, Some, None, is_some, true, false};
+ghost use Rattle.std.specs.Prelude.{◌≡◌, ◌<◌, ◌≤◌, ◌+◌, ◌*◌, ◌/◌, ◌^◌, ◌&&◌, not, Some, None, is_some, true, false};
+ghost use Rattle.p11_words.specs.Bits.{bit_of};
 ghost use Rattle.p11_rk11.specs.Acts.{registers_after_seek};
 ghost use Rattle.p11_rk11.specs.Calls.Places.{is_on_disk};
-ghost use Rattle.p11_rk11.specs.Starts.{registers_cleared_by_go, registers_with_value};
-ghost use Rattle.p11_rk11.specs.Registers.{cleared_registers, control_word, with_enable, enable_rises, with_control, words_left, words_moved, ended, failed, requested, counters_advanced, with_difference, next_sector_or_end, registers_after_sector, is_ready};
+ghost use Rattle.p11_rk11.specs.Starts.{registers_with_value};
+ghost use Rattle.p11_rk11.specs.Registers.{cleared_registers, control_word, with_enable, with_control, words_left, words_moved, ended, failed, requested, counters_advanced, registers_after_sector, is_ready};
 
 use crate::address::BusAddress;
 use crate::errors::{Failure, WRITE_CHECK};
@@ -85,10 +86,10 @@ impl Registers {
     }
 
     /// RKCS takes its enable bit, and says whether that has risen. Without enable no request stands.
-    #[tactic(auto, unfolding(crate::specs::Registers::with_enable, crate::specs::Registers::enable_rises))]
+    #[tactic(auto, unfolding(crate::specs::Registers::with_enable))]
     pub(crate) fn take_enable(&mut self, word: u16) -> bool
         ensures state { self.new ≡ with_enable word self.old }
-        ensures rises { result ≡ enable_rises word self.old }
+        ensures rises { result ≡ (bit_of word 0o100 && not self.old.enable) }
     {
         let was_enabled = self.enable;
         let is_enabled = bit(word, 6);
@@ -210,34 +211,16 @@ impl Registers {
         ensures { self.new ≡ counters_advanced self.old }
     {
         let moved = self.words_moved();
-        if self.function.uses_memory() && !self.inhibit_increment {
-            self.bus_address = self.bus_address.after(moved);
+        if self.function.uses_memory() {
+            self.bus_address = self.bus_address.after(self.inhibit_increment, moved);
         }
         self.word_count = (u32::from(self.word_count) + moved & 0xffff) as u16;
         self.disk_address = self.disk_address.next();
     }
 
-    /// A moved sector is followed by the function's end or the next sector.
-    #[tactic(auto, unfolding(crate::specs::Registers::next_sector_or_end))]
-    fn go_on(&mut self, turn: u64, was_last: bool, differs: bool)
-        requires { turn ≤ 2 ^ 62 }
-        ensures { self.new ≡ next_sector_or_end turn was_last differs self.old }
-    {
-        if was_last {
-            self.end();
-        } else if differs && self.stop_on_soft_error {
-            self.end();
-        } else if self.disk_address.cylinder() == 203 {
-            self.fail(Failure::Overrun);
-        } else {
-            self.transfer = Some(turn + 32);
-        }
-    }
-
     /// GO clears the soft error and search complete.
-    #[tactic(auto, unfolding(crate::specs::Starts::registers_cleared_by_go))]
     pub(crate) fn clear_at_go(&mut self)
-        ensures { self.new ≡ registers_cleared_by_go self.old }
+        ensures { self.new ≡ record self.old { errors = self.old.errors / 2 * 2; search_complete = false } }
     {
         self.errors = self.errors / 2 * 2;
         self.search_complete = false;
@@ -254,18 +237,24 @@ impl Registers {
         self.raise_request();
     }
 
-    /// What a moved sector does to the registers.
-    #[tactic(auto, unfolding(crate::specs::Registers::registers_after_sector, crate::specs::Registers::with_difference))]
+    /// What a moved sector does to the registers: the function ends, or its next sector is due.
+    #[tactic(auto, unfolding(crate::specs::Registers::registers_after_sector))]
     pub(crate) fn sector_moved(&mut self, turn: u64, differs: bool)
         requires turn { turn ≤ 2 ^ 62 }
         requires place { is_on_disk self.old.disk_address ≡ true }
         ensures { self.new ≡ registers_after_sector turn differs self.old }
     {
-        let was_last = self.words_left() <= 256;
+        let ends = self.words_left() <= 256 || differs && self.stop_on_soft_error;
         if differs {
             self.errors |= WRITE_CHECK;
         }
         self.count();
-        self.go_on(turn, was_last, differs);
+        if ends {
+            self.end();
+        } else if self.disk_address.cylinder() == 203 {
+            self.fail(Failure::Overrun);
+        } else {
+            self.transfer = Some(turn + 32);
+        }
     }
 }

@@ -3,11 +3,8 @@
 use Rattle.std.specs.Prelude.{ℕ, Bool, List, Option, Some, None, is_some, [], ◌∷◌, ◌++◌}
 use Rattle.p11_kw11.specs.LineClock.{clock_after_turn}
 use Rattle.p11_dl11.specs.LineEvents.{line_after_turn}
-use Rattle.p11_dl11.specs.ReceiverEvents.{receiver_due}
-use Rattle.p11_dl11.specs.TransmitterEvents.{typed_in, transmitter_due}
+use Rattle.p11_dl11.specs.TransmitterEvents.{typed_in}
 use Rattle.p11_rk11.specs.Acts.{disk_after_turn}
-use Rattle.p11_rk11.specs.State.{disk_due}
-use Rattle.p11_unibus.specs.declared.due.DueTurns.{DueTurns}
 use Rattle.p11_unibus.specs.Due.{next_due}
 use Rattle.p11_unibus.specs.State.{BusState}
 
@@ -32,16 +29,6 @@ bus_after_disk turn b =
 
 unfoldable pub bus_after_turn : ℕ → BusState → BusState
 bus_after_turn turn b = bus_after_disk turn (bus_after_line turn (bus_after_clock turn b))
-
--- asked between this turn and the next: the turns in which the devices act if nothing else happens
-unfoldable pub due_of : ℕ → BusState → DueTurns
-due_of turn b =
-    record {
-      clock = b.clock.due;
-      receiver = receiver_due turn b.line.receiver;
-      transmitter = transmitter_due b.line.transmitter;
-      disk = disk_due b.disk;
-    }
 
 -- whether there is a later turn in which a device acts if nothing else happens
 unfoldable pub is_any_due : ℕ → BusState → Bool

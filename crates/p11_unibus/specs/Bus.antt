@@ -2,7 +2,8 @@
 -- there leaves, and what a read leaves. All that references of a program and of the operator do follows from these
 -- three. They are told the number of the turn, since a device's register may show it. An odd address holds no word, so
 -- it answers nowhere.
-use Rattle.std.specs.Prelude.{ℕ, Bool, true, false, Option, Some, None, Result, Ok, Err, if◌then◌else◌}
+use Rattle.std.specs.Prelude.{ℕ, Bool, true, false, Option, Some, None, option_map, Result, Ok, Err, if◌then◌else◌}
+use Rattle.std.specs.Option.{option_map_or}
 use Rattle.p11_kw11.specs.LineClock.{clock_word, clock_after_write}
 use Rattle.p11_dl11.specs.LineEvents.{line_word, line_after_read, line_after_write}
 use Rattle.p11_rk11.specs.Memory.{has_word, word_at, stored}
@@ -36,34 +37,24 @@ register_after_read (Line r) b = record b { line = line_after_read r b.line }
 register_after_read (Disk r) b = b
 register_after_read Switches b = b
 
--- the same at an address where a register stands or none does
-abbrev pub word_there : ℕ → Option Register → BusState → Option ℕ
-word_there turn None b = None
-word_there turn (Some r) b = Some (register_word turn r b)
-
-abbrev pub changed_there : ℕ → Option Register → ℕ → BusState → BusState
-changed_there turn None word b = b
-changed_there turn (Some r) word b = register_changed turn r word b
-
-abbrev pub read_there : Option Register → BusState → BusState
-read_there None b = b
-read_there (Some r) b = register_after_read r b
-
 -- THE ADDRESS SPACE
 
 -- the word that shows at an address in this turn, or no answer; looking changes nothing
 unfoldable pub see : ℕ → ℕ → BusState → Option ℕ
-see turn pa b = if has_word b.memory pa then Some (word_at b.memory pa) else word_there turn (register_at pa) b
+see turn pa b =
+    if has_word b.memory pa then Some (word_at b.memory pa)
+    else option_map (λ register. register_word turn register b) (register_at pa)
 
 -- the bus once a word is written at an address in this turn; where nothing answers it stays
 unfoldable pub change : ℕ → ℕ → ℕ → BusState → BusState
 change turn pa word b =
     if has_word b.memory pa then record b { memory = stored b.memory pa word }
-    else changed_there turn (register_at pa) word b
+    else option_map_or (λ register. register_changed turn register word b) (register_at pa) b
 
 -- the bus once the word at an address is read; where nothing answers it stays
 unfoldable pub after_read : ℕ → BusState → BusState
-after_read pa b = if has_word b.memory pa then b else read_there (register_at pa) b
+after_read pa b =
+    if has_word b.memory pa then b else option_map_or (λ register. register_after_read register b) (register_at pa) b
 
 -- REFERENCES
 

@@ -3,6 +3,8 @@ use Rattle.std.specs.Prelude.{ℕ, List, Option, length, map, option_map}
 use Rattle.std.specs.List.{range_with_len}
 use Rattle.p11_kw11.specs.LineClock.{clock_word}
 use Rattle.p11_dl11.specs.LineEvents.{line_word}
+use Rattle.p11_dl11.specs.ReceiverEvents.{receiver_due}
+use Rattle.p11_dl11.specs.TransmitterEvents.{transmitter_due}
 use Rattle.p11_dl11.specs.declared.register.Register.TheVariants.{ReceiverStatus, ReceiverBuffer, TransmitterStatus}
 use Rattle.p11_rk11.specs.Drives.{MountedDrive}
 use Rattle.p11_rk11.specs.State.{Rk11State, disk_word, drive_count, drive_of, seek_turn}
@@ -10,7 +12,6 @@ use Rattle.p11_rk11.specs.declared.register.Register.TheVariants as disk
 use Rattle.p11_unibus.specs.declared.devices.BusDevices.{BusDevices}
 use Rattle.p11_unibus.specs.declared.devices.DiskRegisters.{DiskRegisters}
 use Rattle.p11_unibus.specs.declared.devices.DriveShown.{DriveShown}
-use Rattle.p11_unibus.specs.Acts.{due_of}
 use Rattle.p11_unibus.specs.State.{BusState}
 
 -- the disk controller, asked between this turn and the next
@@ -46,13 +47,13 @@ devices_of turn b =
     record {
       clock = clock_word b.clock;
       clock_period = b.clock.period;
-      clock_due = (due_of turn b).clock;
+      clock_due = b.clock.due;
       receiver_status = line_word ReceiverStatus b.line;
       receiver_buffer = line_word ReceiverBuffer b.line;
       transmitter_status = line_word TransmitterStatus b.line;
       keys = length b.line.receiver.keys;
-      receiver_due = (due_of turn b).receiver;
-      transmitter_due = (due_of turn b).transmitter;
+      receiver_due = receiver_due turn b.line.receiver;
+      transmitter_due = transmitter_due b.line.transmitter;
       disk = disk_registers turn b.disk;
       drives = drives_shown b.disk;
       clock_request = b.clock.request;

@@ -1,12 +1,13 @@
 //! What the devices on the bus do in a turn, and the memory that they need for it. A turn before the nearest due one
 //! asks no device, and one in which the clock alone is due asks no other.
-ghost use Rattle.std.specs.Prelude.{◌≡◌, ◌<◌, ◌≤◌, ◌^◌, [], true, false, OnOk, IsOk};
+ghost use Rattle.std.specs.Prelude.{◌≡◌, ◌<◌, ◌≤◌, ◌^◌, [], true, false, is_some, OnOk, IsOk};
 ghost use Rattle.p11_rk11.specs.Acts.{stores_of};
 ghost use Rattle.p11_rk11.specs.Kept.View as disks;
 ghost use Rattle.p11_unibus.specs.Acts.{bus_after_clock, bus_after_disk, bus_after_line, bus_after_turn};
 ghost use Rattle.p11_unibus.specs.Kept.Due.{comes_before, nearest_of};
 ghost use Rattle.p11_unibus.specs.Kept.Prepared.{IsPreparedFor, disk_view};
-ghost use Rattle.p11_unibus.specs.Prepared.{needs_memory, types_in};
+ghost use Rattle.p11_unibus.specs.Prepared.{needs_memory};
+ghost use Rattle.p11_dl11.specs.TransmitterEvents.{typed_in};
 ghost use Rattle.p11_unibus.specs.Kept.Written.{ChangedOnly};
 
 use crate::due::{look_ahead, look_from};
@@ -69,7 +70,7 @@ impl<A: Allocator> Unibus<A> {
     #[tactic(auto, unfolding(crate::specs::Acts::bus_after_line))]
     fn line_acts(&mut self, turn: u64)
         requires turn { turn ≤ 2 ^ 62 }
-        requires room { types_in turn self.old.visible ≡ true → 0 < self.old.prepared.room }
+        requires room { is_some (typed_in turn self.old.visible.line.transmitter) ≡ true → 0 < self.old.prepared.room }
         ensures visible { self.new.visible ≡ bus_after_line turn self.old.visible }
         ensures disk { disk_view self.new.visible self.new.prepared ≡ disk_view self.old.visible self.old.prepared }
         ensures written { self.new.written ≡ self.old.written }

@@ -46,7 +46,8 @@ pub trait Device {
 }
 
 impl Device for Kw11 {
-    ghost use Rattle.p11_kw11.specs.LineClock.{clock_after_init, clock_after_turn, register_at};
+    ghost use Rattle.p11_kw11.specs.Calls.Addresses.{register_at};
+    ghost use Rattle.p11_kw11.specs.LineClock.{clock_after_init, clock_after_turn};
 
     ghost addresses = { 0o777546 ∷ [] };
 
@@ -62,7 +63,7 @@ impl Device for Kw11 {
         self.init();
     }
 
-    #[tactic(auto, unfolding(p11_kw11::specs::LineClock::register_at, crate::specs::Written::is_listed))]
+    #[tactic(auto, unfolding(p11_kw11::specs::Calls::Addresses::register_at, crate::specs::Written::is_listed))]
     fn answers_its_own() {}
 
     #[tactic(auto, unfolding(p11_kw11::specs::LineClock::clock_after_turn, p11_words::specs::DueTurns::is_due))]
@@ -73,7 +74,7 @@ impl Device for Kw11 {
 }
 
 impl<A: Allocator> Device for Dl11<A> {
-    ghost use Rattle.p11_dl11.specs.Addresses.{register_at};
+    ghost use Rattle.p11_dl11.specs.Calls.Addresses.{register_at};
     ghost use Rattle.p11_dl11.specs.LineEvents.{line_after_init, line_after_turn};
     ghost use Rattle.p11_dl11.specs.ReceiverEvents.{receiver_due};
     ghost use Rattle.p11_dl11.specs.TransmitterEvents.{transmitter_due};
@@ -92,7 +93,7 @@ impl<A: Allocator> Device for Dl11<A> {
         self.init();
     }
 
-    #[tactic(auto, unfolding(p11_dl11::specs::Addresses::register_at, crate::specs::Written::is_listed))]
+    #[tactic(auto, unfolding(p11_dl11::specs::Calls::Addresses::register_at, crate::specs::Written::is_listed))]
     fn answers_its_own() {}
 
     fn is_due_later() {}
@@ -103,8 +104,9 @@ impl<A: Allocator> Device for Dl11<A> {
 
 impl<A: Allocator> Device for Rk11<A> {
     ghost use Rattle.p11_rk11.specs.Acts.{disk_after_turn};
-    ghost use Rattle.p11_rk11.specs.Registers.{register_at};
-    ghost use Rattle.p11_rk11.specs.State.{disk_after_init, disk_due};
+    ghost use Rattle.p11_rk11.specs.Calls.Addresses.{register_at};
+    ghost use Rattle.p11_rk11.specs.Calls.Due.{disk_due};
+    ghost use Rattle.p11_rk11.specs.State.{disk_after_init};
 
     ghost addresses = { 0o777400 ∷ 0o777402 ∷ 0o777404 ∷ 0o777406 ∷ 0o777410 ∷ 0o777412 ∷ 0o777416 ∷ [] };
 
@@ -120,7 +122,7 @@ impl<A: Allocator> Device for Rk11<A> {
         self.init();
     }
 
-    #[tactic(auto, unfolding(p11_rk11::specs::Registers::register_at, crate::specs::Written::is_listed))]
+    #[tactic(auto, unfolding(p11_rk11::specs::Calls::Addresses::register_at, crate::specs::Written::is_listed))]
     fn answers_its_own() {}
 
     fn is_due_later() {

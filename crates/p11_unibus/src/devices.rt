@@ -131,7 +131,7 @@ impl<A: Allocator> Unibus<A> {
     }
 
     /// What the operator is shown of the devices, between this turn and the next. It has no effect.
-    #[tactic(auto, unfolding(crate::specs::Devices::devices_of, crate::specs::Acts::due_of))]
+    #[tactic(auto, unfolding(crate::specs::Devices::devices_of, crate::specs::Calls::Due::due_of))]
     pub fn devices(&self, turn: u64) -> BusDevices
         requires { turn ≤ 2 ^ 62 }
         ensures { result ≡ devices_of turn self.now.visible }

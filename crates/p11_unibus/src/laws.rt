@@ -26,7 +26,7 @@ pub fn memory_ends_below_the_io_page(kwords: u32, address: u32)
 {}
 
 /// The registers of the devices and the switches stand on the I/O page: below it there is none.
-#[tactic(auto, unfolding(crate::specs::Registers::register_at, p11_kw11::specs::LineClock::register_at, p11_dl11::specs::Addresses::register_at, p11_rk11::specs::Registers::register_at))]
+#[tactic(auto, unfolding(crate::specs::Registers::register_at))]
 pub fn registers_stand_on_the_io_page()
     ensures { (pa : ℕ) → pa < io_page → register_at pa ≡ None }
 {}
@@ -37,7 +37,7 @@ pub fn a_byte_is_read_back(address: u32, byte: u16, word: u16)
 {}
 
 /// An odd address answers nowhere.
-#[tactic(auto, unfolding(crate::specs::Calls::References::answers, crate::specs::Bus::see, p11_rk11::specs::Memory::has_word, crate::specs::Registers::register_at, p11_kw11::specs::LineClock::register_at, p11_dl11::specs::Addresses::register_at, p11_rk11::specs::Registers::register_at))]
+#[tactic(auto, unfolding(crate::specs::Calls::References::answers, crate::specs::Bus::see, p11_rk11::specs::Memory::has_word, crate::specs::Registers::register_at))]
 pub fn an_odd_address_answers_nowhere(turn: u64, address: u32)
     requires { address % 2 ≡ 1 }
     ensures { (b : BusState) → answers turn address b ≡ false }

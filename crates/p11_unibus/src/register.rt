@@ -1,5 +1,6 @@
 //! The registers on the I/O page and their bus addresses.
 ghost use Rattle.std.specs.Prelude.{◌≡◌};
+ghost use Rattle.p11_unibus.specs.Calls.Tables.{register_by_device};
 ghost use Rattle.p11_unibus.specs.Registers.{register_at};
 
 use p11_dl11::Register as LineRegister;
@@ -24,19 +25,28 @@ pub enum Register {
 
 impl Register {
     /// The register that stands at a bus address of 18 bits, if one does.
-    #[tactic(auto, unfolding(crate::specs::Registers::register_at))]
+    #[tactic(auto, using(crate::proofs::Map::devices_make_the_map))]
     #[inline(always)]
     pub fn at(address: u32) -> Option<Register>
         ensures { result ≡ register_at address }
     {
+        Register::by_device(address)
+    }
+
+    /// The same, as the devices know their addresses.
+    #[tactic(auto, unfolding(crate::specs::Calls::Tables::register_by_device))]
+    #[inline(always)]
+    fn by_device(address: u32) -> Option<Register>
+        ensures { result ≡ register_by_device address }
+    {
+        if let Some(register) = DiskRegister::at(address) {
+            return Some(Register::Disk(register));
+        }
         if let Some(register) = ClockRegister::at(address) {
             return Some(Register::Clock(register));
         }
         if let Some(register) = LineRegister::at(address) {
             return Some(Register::Line(register));
-        }
-        if let Some(register) = DiskRegister::at(address) {
-            return Some(Register::Disk(register));
         }
         match address {
             SWITCHES => Some(Register::Switches),

@@ -1,5 +1,5 @@
 use Rattle.std.proofs.Common.{add-one}
-use Rattle.p11_rk11.specs.State.{due_among}
+use Rattle.p11_rk11.specs.Calls.Due.{due_among}
 use Rattle.p11_rk11.proofs.controller.Rk11.due.Goals as goal
 
 pub loop-n-init : goal.loop-n-init

@@ -1,0 +1,2 @@
+-- What contracts of single calls say, and no list of commands needs.
+pub mod Addresses
