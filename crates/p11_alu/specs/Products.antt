@@ -41,8 +41,6 @@ answer_with q r =
 -- DIV: a pair by a word; V and C where the divisor is 0.
 unfoldable pub div_of : Pair → ℕ → Quotient
 div_of dividend divisor =
-    if divisor == 0
-    then answer_without true
-    else answer_with
-    (int_div (pair_value dividend) (sval Word divisor))
-    (int_rem (pair_value dividend) (sval Word divisor))
+    let quotient = int_div (pair_value dividend) (sval Word divisor) in
+    let remainder = int_rem (pair_value dividend) (sval Word divisor) in
+    if divisor == 0 then answer_without true else answer_with quotient remainder

@@ -2,8 +2,9 @@
 ghost use Rattle.std.specs.Prelude.{◌≡◌, ◌<◌, ℕ, Bool, ◌+ℤ◌, ◌-ℤ◌, int_lt, not, pos};
 ghost use Rattle.std.specs.Ordering.{int_eq};
 ghost use Rattle.p11_alu.specs.Calls.Fits.{Fits};
+ghost use Rattle.p11_alu.specs.Calls.Rules.{neg_by_rule, adc_by_rule, sbc_by_rule};
 ghost use Rattle.p11_alu.specs.Numbers.{modulus, val, sval, wrapped};
-ghost use Rattle.p11_alu.specs.Results.{logic_codes, add_of, sub_of, cmp_codes, inc_of, dec_of, neg_of, adc_of, sbc_of, result_of};
+ghost use Rattle.p11_alu.specs.Results.{difference_of, logic_codes, sum_of, with_carry};
 ghost use Rattle.p11_words.specs.Bits.{flag};
 
 use crate::codes::Codes;
@@ -71,10 +72,10 @@ fn difference_overflows(size: Size, a: u16, b: u16, difference: u16) -> bool
 }
 
 /// ADD: the sum of two words. C is the carry out of bit 15.
-#[tactic(auto, unfolding(crate::specs::Results::add_of))]
+#[tactic(auto, unfolding(crate::specs::Results::sum_of))]
 #[inline(always)]
 pub fn add(source: u16, destination: u16) -> (u16, Codes)
-    ensures { result ≡ add_of source destination }
+    ensures { result ≡ sum_of Size.Word source destination }
 {
     let sum = source.wrapping_add(destination);
     let codes = Codes {
@@ -87,10 +88,10 @@ pub fn add(source: u16, destination: u16) -> (u16, Codes)
 }
 
 /// SUB: the destination minus the source, both words. C is the borrow.
-#[tactic(auto, unfolding(crate::specs::Results::sub_of))]
+#[tactic(auto, unfolding(crate::specs::Results::difference_of))]
 #[inline(always)]
 pub fn sub(source: u16, destination: u16) -> (u16, Codes)
-    ensures { result ≡ sub_of source destination }
+    ensures { result ≡ difference_of Size.Word destination source }
 {
     let difference = wrapped_difference(Size::Word, destination, source);
     let codes = Codes {
@@ -104,10 +105,10 @@ pub fn sub(source: u16, destination: u16) -> (u16, Codes)
 
 /// CMP: the codes of the source minus the destination, where SUB has it the other way. C is the
 /// borrow. Of bytes the low byte of each is looked at alone.
-#[tactic(auto, unfolding(crate::specs::Results::cmp_codes))]
+#[tactic(auto, unfolding(crate::specs::Results::difference_of))]
 #[inline(always)]
 pub fn cmp(size: Size, source: u16, destination: u16) -> Codes
-    ensures { result ≡ cmp_codes size source destination }
+    ensures { result ≡ (difference_of size source destination).1 }
 {
     let difference = wrapped_difference(size, source, destination);
     Codes {
@@ -119,10 +120,10 @@ pub fn cmp(size: Size, source: u16, destination: u16) -> Codes
 }
 
 /// INC: one more; C stays. Of a byte the low byte of `number` is looked at alone.
-#[tactic(auto, unfolding(crate::specs::Results::inc_of))]
+#[tactic(auto, unfolding(crate::specs::Results::sum_of))]
 #[inline(always)]
 pub fn inc(size: Size, number: u16, c: bool) -> (u16, Codes)
-    ensures value { result ≡ inc_of size number c }
+    ensures value { result ≡ with_carry c (sum_of size number 1) }
     ensures fits { Fits size result.0 }
 {
     let sum = wrapped_sum(size, number, 1);
@@ -136,10 +137,10 @@ pub fn inc(size: Size, number: u16, c: bool) -> (u16, Codes)
 }
 
 /// DEC: one less; C stays. Of a byte the low byte of `number` is looked at alone.
-#[tactic(auto, unfolding(crate::specs::Results::dec_of))]
+#[tactic(auto, unfolding(crate::specs::Results::difference_of))]
 #[inline(always)]
 pub fn dec(size: Size, number: u16, c: bool) -> (u16, Codes)
-    ensures value { result ≡ dec_of size number c }
+    ensures value { result ≡ with_carry c (difference_of size number 1) }
     ensures fits { Fits size result.0 }
 {
     let difference = wrapped_difference(size, number, 1);
@@ -153,10 +154,10 @@ pub fn dec(size: Size, number: u16, c: bool) -> (u16, Codes)
 }
 
 /// NEG: 0 minus the operand. C is set unless the result is 0. Of a byte the low byte of `number` is looked at alone.
-#[tactic(auto, unfolding(crate::specs::Results::neg_of))]
+#[tactic(auto, unfolding(crate::specs::Results::difference_of), using(crate::proofs::Carries::borrow_from_0))]
 #[inline(always)]
 pub fn neg(size: Size, number: u16) -> (u16, Codes)
-    ensures value { result ≡ neg_of size number }
+    ensures value { result ≡ difference_of size 0 number }
     ensures fits { Fits size result.0 }
 {
     let difference = wrapped_difference(size, 0, number);
@@ -178,10 +179,10 @@ pub(crate) fn carry(c: bool) -> u16
 }
 
 /// ADC: the operand plus C. Of a byte the low byte of `number` is looked at alone.
-#[tactic(auto, unfolding(crate::specs::Results::adc_of))]
+#[tactic(auto, unfolding(crate::specs::Results::sum_of), using(crate::proofs::Carries::carry_out))]
 #[inline(always)]
 pub fn adc(size: Size, number: u16, c: bool) -> (u16, Codes)
-    ensures value { result ≡ adc_of size number c }
+    ensures value { result ≡ sum_of size number (flag c 1) }
     ensures fits { Fits size result.0 }
 {
     let carry = carry(c);
@@ -196,10 +197,10 @@ pub fn adc(size: Size, number: u16, c: bool) -> (u16, Codes)
 }
 
 /// SBC: the operand minus C. Of a byte the low byte of `number` is looked at alone.
-#[tactic(auto, unfolding(crate::specs::Results::sbc_of))]
+#[tactic(auto, unfolding(crate::specs::Results::difference_of), using(crate::proofs::Carries::borrow_out))]
 #[inline(always)]
 pub fn sbc(size: Size, number: u16, c: bool) -> (u16, Codes)
-    ensures value { result ≡ sbc_of size number c }
+    ensures value { result ≡ difference_of size number (flag c 1) }
     ensures fits { Fits size result.0 }
 {
     let borrow = carry(c);
@@ -228,19 +229,10 @@ pub fn logic(size: Size, value: u16, c: bool) -> Codes
     }
 }
 
-/// The handbook's rules for the V and C of NEG, ADC and SBC, which look at the operand or the result
-/// alone, are those of the difference from 0, of the sum with C and of the difference with C.
+/// The handbook's rules for the V and C of NEG, ADC and SBC, which look at the operand or the result alone, give what
+/// the difference from 0, the sum with C and the difference with C have.
 pub fn carry_rules()
-    ensures neg { (size : Size) (n : ℕ) → n < 65536 →
-        neg_of size n ≡ result_of size (pos 0 -ℤ sval size n) (pos 0 -ℤ pos (val size n)) }
-    ensures adc { (size : Size) (n : ℕ) (c : Bool) → n < 65536 →
-        adc_of size n c
-        ≡ result_of size
-        (sval size n +ℤ pos (flag c 1))
-        (pos (val size n) +ℤ pos (flag c 1)) }
-    ensures sbc { (size : Size) (n : ℕ) (c : Bool) → n < 65536 →
-        sbc_of size n c
-        ≡ result_of size
-        (sval size n -ℤ pos (flag c 1))
-        (pos (val size n) -ℤ pos (flag c 1)) }
+    ensures neg { (size : Size) (n : ℕ) → n < 65536 → neg_by_rule size n ≡ difference_of size 0 n }
+    ensures adc { (size : Size) (n : ℕ) (c : Bool) → n < 65536 → adc_by_rule size n c ≡ sum_of size n (flag c 1) }
+    ensures sbc { (size : Size) (n : ℕ) (c : Bool) → n < 65536 → sbc_by_rule size n c ≡ difference_of size n (flag c 1) }
 {}

@@ -11,9 +11,9 @@ use Rattle.p11_psw.specs.declared.zones.Zone.{Zone}
 use Rattle.p11_psw.specs.declared.zones.Zone.TheVariants.{Clear, Yellow, Red}
 use Rattle.p11_cpu.specs.declared.registers.Registers.{Registers}
 use Rattle.p11_cpu.specs.ExtendedInstructions.{quotient_stored}
-use Rattle.p11_cpu.specs.ProcessorControl.{resumed, returned, waiting, halt_instruction, halted, initialized, is_kernel, named_codes_of, reserved, reset, reset_in_kernel, trap_vector}
+use Rattle.p11_cpu.specs.ProcessorControl.{resumed, waiting, halt_instruction, halted, initialized, is_kernel, named_codes_of, reset_in_kernel, trap_vector}
 use Rattle.p11_cpu.specs.ProgramControl.{branched, branch_address, counted_back, is_taken}
-use Rattle.p11_cpu.specs.Registers.{check_stack_limit, codes_of, conclude, odd_of, register_of, set_codes, set_codes_of, set_pair_of, set_previous_register_of, set_register_of, step_down, step_up, with_register, with_stack_pointer, zone_in, get, pair_of_registers, set}
+use Rattle.p11_cpu.specs.Registers.{check_stack_limit, codes_of, conclude, odd_of, register_of, set_codes, set_codes_of, set_pair_of, set_register_in, set_register_of, step_down, step_up, with_register, with_stack_pointer, zone_in, get, pair_of_registers, set}
 use Rattle.p11_cpu.specs.State.{HardwareState, Processor}
 use Rattle.p11_cpu.specs.Words.{minus, plus, sign_extended, width_of}
 use Rattle.p11_cpu.proofs.Confined.{IfGives, Kept, SameProcessor, Within, either_within, change_kept, either_kept, give_kept, look_kept, then_kept}
@@ -29,15 +29,16 @@ use Rattle.p11_decode.specs.declared.operand.Operand.{Operand}
 use Rattle.p11_decode.specs.declared.operand.Register as registers
 use Rattle.p11_decode.specs.declared.operand.Size.{Size}
 use Rattle.p11_decode.specs.declared.operand.Size.TheVariants.{Word}
+use Rattle.p11_psw.specs.Sources.{status_from_return}
 use Rattle.p11_psw.specs.declared.vector.Vector.{Vector}
 use Rattle.p11_psw.specs.declared.vector.Vector.TheVariants.{BusError, ReservedInstruction}
 use Rattle.p11_cpu.specs.declared.operand.Place.{Place}
 use Rattle.p11_cpu.specs.declared.operand.Place.TheVariants as places
-use Rattle.p11_cpu.specs.DoubleOperand.{bitwise, compare_of, modify_of}
+use Rattle.p11_cpu.specs.DoubleOperand.{compare_of, modify_of}
 use Rattle.p11_cpu.specs.Instructions.{execute_of}
 use Rattle.p11_cpu.specs.Operands.{address_in, indexed, is_mode_0, operands_of, place_in, place_of, pop_of, push_register_of, read_place_of, step_of, stored_in, target_of, value_of, write_moved_of, write_place_of}
 use Rattle.p11_cpu.specs.PreviousSpace.{read_previous_of, write_previous_of}
-use Rattle.p11_cpu.specs.SingleOperand.{single_of, store_only_of}
+use Rattle.p11_cpu.specs.SingleOperand.{bitwise, single_of, store_only_of}
 use Rattle.p11_cpu.specs.Step.{Step, change, fail}
 use Rattle.p11_cpu.proofs.ConfinedReferences.{read_kept, read_previous_kept, write_kept, write_previous_kept}
 
@@ -79,8 +80,7 @@ unfolding set_register_of
 set_within r value a h w =
     with_processor a h _ (kernel_sp_kept h.processor.status.current r value h.processor.registers w.processor.current) refl refl refl refl refl w
 
-set_previous_within : (r : registers.Register) (value : ℕ) (a h : HardwareState) → Within a h → Within a (set_previous_register_of r value h)
-unfolding set_previous_register_of
+set_previous_within : (r : registers.Register) (value : ℕ) (a h : HardwareState) → Within a h → Within a (set_register_in h.processor.status.previous r value h)
 set_previous_within r value a h w =
     with_processor a h _ (kernel_sp_kept h.processor.status.previous r value h.processor.registers w.processor.previous) refl refl refl refl refl w
 
@@ -139,8 +139,8 @@ conclude_kept : {A : Type 0} (f : Codes → A × Codes) → Kept (conclude f)
 conclude_kept f = record { keeps = λ a turn h w. codes_within (f (codes_of h)).1 a h w }
 
 -- RTI and RTT in user mode: the modes and the priority stay
-returned_within : (pc word : ℕ) (a h : HardwareState) → Within a h → Within a (returned pc word h)
-unfolding returned resumed
+returned_within : (pc word : ℕ) (a h : HardwareState) → Within a h → Within a (resumed pc (status_from_return h.processor.status word) h)
+unfolding resumed
 returned_within pc word a h w =
     let previous = w.laws.previous h.processor.status word w.processor.current w.processor.previous in
     with_processor a h _ refl refl refl (w.laws.current _ word w.processor.current ∙ sym w.processor.current)
@@ -226,7 +226,7 @@ push_kept r = then_kept (step_down_kept Sp 2) (λ top. then_kept (get_kept r) (�
 
 pop_kept : Kept pop_of
 unfolding pop_of
-pop_kept = then_kept (step_up_kept Sp 2) (λ top. read_kept Word top)
+pop_kept = then_kept (step_up_kept Sp 2) (read_kept Word)
 
 -- PROCESSOR CONTROL
 
@@ -239,10 +239,10 @@ halt_kept =
     }
   where
     if_kernel : Mode → Step (Unit {0})
-    if_kernel mode = cond (is_kernel mode) (change halted) reserved
+    if_kernel mode = cond (is_kernel mode) (change halted) (fail ReservedInstruction)
 
 -- and RESET does nothing
-reset_kept : Kept reset
+reset_kept : Kept (change reset_in_kernel)
 unfolding reset_in_kernel
 reset_kept =
     record {
@@ -310,7 +310,7 @@ execute_kept (ops.Sob r count) =
     then_kept (get_kept r) (λ number. then_kept (set_kept r (minus number 1)) (λ _. change_kept (counted_back r count) (counted_within r count)))
 execute_kept (ops.Codes op named) = set_codes_kept (named_codes_of op named)
 execute_kept (ops.Trap op) = fail_kept (trap_vector op)
-execute_kept (ops.Return op) = then_kept pop_kept (λ pc. then_kept pop_kept (λ word. change_kept (returned pc word) (returned_within pc word)))
+execute_kept (ops.Return op) = then_kept pop_kept (λ pc. then_kept pop_kept (λ word. change_kept (λ h. resumed pc (status_from_return h.processor.status word) h) (returned_within pc word)))
 execute_kept ops.Halt = halt_kept
 execute_kept ops.Wait = change_kept waiting waiting_within
 execute_kept ops.Reset = reset_kept

@@ -27,8 +27,9 @@ use Rattle.p11_cpu.specs.Confinement.{IsConfining, IsReached, acted_next, after_
 use Rattle.p11_cpu.specs.Laws.Confined.{UserTurnIsConfined, UserTurnKeepsConfining}
 use Rattle.p11_cpu.specs.Instructions.{may_trace}
 use Rattle.p11_cpu.specs.Registers.{register_of}
-use Rattle.p11_cpu.specs.State.{HardwareState, Processor, State, hardware_of, with_bus_of}
-use Rattle.p11_cpu.specs.Turns.{completed, decoded_at_pc, devices_acted, hardware_turn_of, instruction_of, instruction_run, marks_cleared, pc_taken, request_granted, served_or_run, traps_served, turn_of, word_at_pc, yellow_zone_trap}
+use Rattle.p11_cpu.specs.Kept.OnBus.{with_bus_of}
+use Rattle.p11_cpu.specs.State.{HardwareState, Processor, State, hardware_of}
+use Rattle.p11_cpu.specs.Turns.{completed, decoded_at_pc, devices_acted, hardware_turn_of, instruction_of, instruction_run, marks_cleared, pc_taken, request_granted, served_or_run, traps_served, turn_of, yellow_zone_trap}
 use Rattle.p11_cpu.proofs.Confined.{Confines, IfGives, Kept, Laws, SameBus, SameManagement, SameProcessor, Within, change_kept, give_kept, look_kept, then_kept}
 use Rattle.p11_cpu.proofs.ConfinedInstructions.{execute_kept, step_up_kept}
 use Rattle.p11_cpu.proofs.ConfinedReferences.{read_kept}
@@ -53,11 +54,10 @@ pc_within a h w =
     }
 
 fetched_kept : Kept decoded_at_pc
-unfolding decoded_at_pc word_at_pc
+unfolding decoded_at_pc
 fetched_kept =
-    then_kept (then_kept (look_kept (register_of Pc)) (λ pc. then_kept (read_kept Word pc)
-    (λ word. then_kept (step_up_kept Pc 2) (λ _. give_kept word))))
-    (λ word. give_kept (op_of word))
+    then_kept (look_kept (register_of Pc)) (λ pc. then_kept (read_kept Word pc)
+    (λ word. then_kept (step_up_kept Pc 2) (λ _. give_kept (op_of word))))
 
 instruction_kept : Kept instruction_of
 unfolding instruction_of

@@ -3,6 +3,7 @@ pub mod Agreement
 pub mod Bank
 pub mod Decoded
 pub mod Found
+pub mod OnBus
 pub mod Prepared
 pub mod Quiet
 pub mod View

@@ -1,11 +1,11 @@
 -- What the operator does to the processor and to memory between turns, and a new machine.
-use Rattle.std.specs.Prelude.{ℕ, replicate, slice_get, [], ◌∷◌, false, Bool, Option, Some, None}
-use Rattle.p11_decode.specs.declared.operand.Register.TheVariants as registers
+use Rattle.std.specs.Prelude.{ℕ, replicate, slice_get, map, [], ◌∷◌, ◌++◌, false, Bool, Option, unwrap_or}
+use Rattle.p11_decode.specs.declared.operand.Register.TheVariants.{R0, R1, R2, R3, R4, R5, Sp, Pc}
 use Rattle.p11_kt11.specs.Management.{new_management}
-use Rattle.p11_psw.specs.declared.mode.Mode.TheVariants.{Kernel}
+use Rattle.p11_psw.specs.declared.mode.Mode.TheVariants.{Kernel, User}
 use Rattle.p11_psw.specs.Status.{new_status, status_of}
 use Rattle.p11_cpu.specs.declared.registers.ConsoleRegister.{ConsoleRegister}
-use Rattle.p11_cpu.specs.declared.registers.ConsoleRegister.TheVariants.{R0, R1, R2, R3, R4, R5, KernelSp, Pc, UserSp, Status}
+use Rattle.p11_cpu.specs.declared.registers.ConsoleRegister.TheVariants.{General, UserSp, Status}
 use Rattle.p11_cpu.specs.State.{Processor, HardwareState, State, hardware_of, with_hardware}
 use Rattle.p11_cpu.specs.Registers.{with_register}
 use Rattle.p11_unibus.specs.Bytes.{has_byte}
@@ -37,41 +37,27 @@ new_machine kwords =
 unfoldable pub answers_of : ℕ → State → Bool
 answers_of pa s = answers s.turns pa (hardware_of s)
 
--- the number of a word that shows
-abbrev pub shown_word : Option ℕ → ℕ
-shown_word (Some word) = word
-shown_word None = 0
-
 -- a real read at an address that answers: the machine after it, and the word
 unfoldable pub examine_of : ℕ → State → State × ℕ
-examine_of pa s = (with_hardware (after_read pa (hardware_of s)) s, shown_word (see s.turns pa (hardware_of s)))
+examine_of pa s = (with_hardware (after_read pa (hardware_of s)) s, unwrap_or (see s.turns pa (hardware_of s)) 0)
 
 -- a write at an address that answers
 unfoldable pub deposit_of : ℕ → ℕ → State → State
 deposit_of pa word s = with_hardware (change s.turns pa word (hardware_of s)) s
 
--- the registers that the operator can set, by their numbers
+-- the registers that the operator can set, by their numbers: R0 to R7 of kernel mode, R6 of user mode, the status word
 unfoldable pub console_register : ℕ → Option ConsoleRegister
-console_register n = slice_get (R0 ∷ R1 ∷ R2 ∷ R3 ∷ R4 ∷ R5 ∷ KernelSp ∷ Pc ∷ UserSp ∷ Status ∷ []) n
+console_register n =
+    slice_get (map General (R0 ∷ R1 ∷ R2 ∷ R3 ∷ R4 ∷ R5 ∷ Sp ∷ Pc ∷ []) ++ UserSp ∷ Status ∷ []) n
 
 -- the operator's setting of a register: the status word takes every bit but 11:8, T among them
 abbrev pub with_console_register : ConsoleRegister → ℕ → Processor → Processor
-with_console_register R0 value p = record p { registers = with_register Kernel registers.R0 value p.registers }
-with_console_register R1 value p = record p { registers = with_register Kernel registers.R1 value p.registers }
-with_console_register R2 value p = record p { registers = with_register Kernel registers.R2 value p.registers }
-with_console_register R3 value p = record p { registers = with_register Kernel registers.R3 value p.registers }
-with_console_register R4 value p = record p { registers = with_register Kernel registers.R4 value p.registers }
-with_console_register R5 value p = record p { registers = with_register Kernel registers.R5 value p.registers }
-with_console_register KernelSp value p = record p { registers = record p.registers { kernel_sp = value } }
-with_console_register Pc value p = record p { registers = record p.registers { pc = value } }
-with_console_register UserSp value p = record p { registers = record p.registers { user_sp = value } }
+with_console_register (General r) value p = record p { registers = with_register Kernel r value p.registers }
+with_console_register UserSp value p = record p { registers = with_register User Sp value p.registers }
 with_console_register Status value p = record p { status = status_of value }
 
-unfoldable pub set_console : ConsoleRegister → ℕ → HardwareState → HardwareState
-set_console r value h = record h { processor = with_console_register r value h.processor }
-
 unfoldable pub set_reg_of : ConsoleRegister → ℕ → State → State
-set_reg_of r value s = with_hardware (set_console r value (hardware_of s)) s
+set_reg_of r value s = record s { processor = with_console_register r value s.processor }
 
 -- START: INIT, as of RESET; the status is 0, PC the address, and no waiting or halted mark
 -- is left; the other registers and the count of turns stay

@@ -1,6 +1,5 @@
 -- What the operator does to the devices between turns, and sees of them and of memory management.
-use Rattle.std.specs.Prelude.{ℕ, List, Bool, not, ◌&&◌, is_some, Result}
-use Rattle.p11_psw.specs.declared.priority.Priority.{Priority}
+use Rattle.std.specs.Prelude.{ℕ, List, Bool, not, ◌&&◌, is_none, Result}
 use Rattle.p11_kt11.specs.Registers.{status_0_word}
 use Rattle.p11_dl11.specs.ReceiverEvents.{receiver_room}
 use Rattle.p11_dl11.specs.declared.line.KeysFull.{KeysFull}
@@ -10,28 +9,22 @@ use Rattle.p11_unibus.specs.Acts.{is_any_due}
 use Rattle.p11_unibus.specs.Devices.{devices_of}
 use Rattle.p11_unibus.specs.Events.{bus_after_key, bus_after_period, bus_after_tick, bus_after_switches, bus_after_take, bus_after_mount, bus_after_unmount}
 use Rattle.p11_unibus.specs.Requests.{highest_request}
-use Rattle.p11_unibus.specs.State.{BusState}
 use Rattle.p11_cpu.specs.State.{State}
-
--- whether no request stands above a priority
-abbrev pub no_request : Priority → BusState → Bool
-no_request priority b = not (is_some (highest_request priority b))
 
 -- whether the machine idles: the processor waits, no device is due at a later turn, and no request stands above the
 -- processor's priority
 unfoldable pub is_idle : State → Bool
-is_idle s = (s.processor.waiting && not (is_any_due s.turns s.bus)) && no_request s.processor.status.priority s.bus
+is_idle s =
+    (s.processor.waiting && not (is_any_due s.turns s.bus))
+    && is_none (highest_request s.processor.status.priority s.bus)
 
 -- the typed characters are taken
 unfoldable pub take_typed_of : State → State
 take_typed_of s = record s { bus = bus_after_take s.bus }
 
-abbrev pub keyed : State → BusState × Result (Unit {0}) KeysFull → State × Result (Unit {0}) KeysFull
-keyed s (b, outcome) = (record s { bus = b }, outcome)
-
 -- a key is pressed, which is refused where as many wait as may
 unfoldable pub key_of : ℕ → State → State × Result (Unit {0}) KeysFull
-key_of key s = keyed s (bus_after_key key s.bus)
+key_of key s = let (bus, outcome) = bus_after_key key s.bus in (record s { bus = bus }, outcome)
 
 -- how many more keys may wait
 unfoldable pub room_of : State → ℕ
