@@ -17,7 +17,7 @@ use Rattle.p11_unibus.specs.State.{BusState}
 use Rattle.p11_cpu.specs.declared.trap.Trap.{Trap}
 use Rattle.p11_cpu.specs.Confinement.{IsReached}
 use Rattle.p11_cpu.specs.State.{HardwareState, Processor}
-use Rattle.p11_cpu.specs.Step.{Step, ◌>>=◌, after, change, give, look}
+use Rattle.p11_cpu.specs.Step.{Step, ◌>>=◌, after, change, pure, gets}
 
 -- the laws of memory management, of the bus and of the status word on which confinement rests
 pub record Laws : Type 0 where
@@ -85,11 +85,11 @@ pub then_kept : {A B : Type 0} {m : Step A} {next : A → Step B} → Kept m →
 then_kept {A} {B} {m} {next} first kept =
     record { keeps = λ a turn h w. goes_on a turn next (m turn h) kept (first.keeps a turn h w) }
 
-pub give_kept : {A : Type 0} (x : A) → Kept (give x)
-give_kept x = record { keeps = λ a turn h w. w }
+pub pure_kept : {A : Type 0} (x : A) → Kept (pure x)
+pure_kept x = record { keeps = λ a turn h w. w }
 
-pub look_kept : {A : Type 0} (f : HardwareState → A) → Kept (look f)
-look_kept f = record { keeps = λ a turn h w. w }
+pub gets_kept : {A : Type 0} (f : HardwareState → A) → Kept (gets f)
+gets_kept f = record { keeps = λ a turn h w. w }
 
 pub change_kept : (f : HardwareState → HardwareState) → ((a h : HardwareState) → Within a h → Within a (f h)) → Kept (change f)
 change_kept f kept = record { keeps = λ a turn h w. kept a h w }

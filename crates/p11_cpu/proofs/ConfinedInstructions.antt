@@ -13,10 +13,10 @@ use Rattle.p11_cpu.specs.declared.registers.Registers.{Registers}
 use Rattle.p11_cpu.specs.ExtendedInstructions.{quotient_stored}
 use Rattle.p11_cpu.specs.ProcessorControl.{resumed, waiting, halt_instruction, halted, initialized, is_kernel, named_codes_of, reset_in_kernel, trap_vector}
 use Rattle.p11_cpu.specs.ProgramControl.{branched, branch_address, counted_back, is_taken}
-use Rattle.p11_cpu.specs.Registers.{check_stack_limit, codes_of, conclude, odd_of, register_of, set_codes, set_codes_of, set_pair_of, set_register_in, set_register_of, step_down, step_up, with_register, with_stack_pointer, zone_in, get, pair_of_registers, set}
+use Rattle.p11_cpu.specs.Registers.{check_stack_limit, codes_of, set_codes_for, odd_of, register_of, set_codes, set_codes_of, set_pair_of, set_register_in, set_register_of, step_down, step_up, with_register, with_stack_pointer, zone_in, get, pair_of_registers, set}
 use Rattle.p11_cpu.specs.State.{HardwareState, Processor}
 use Rattle.p11_cpu.specs.Words.{minus, plus, sign_extended, width_of}
-use Rattle.p11_cpu.proofs.Confined.{IfGives, Kept, SameProcessor, Within, either_within, change_kept, either_kept, give_kept, look_kept, then_kept}
+use Rattle.p11_cpu.proofs.Confined.{IfGives, Kept, SameProcessor, Within, either_within, change_kept, either_kept, pure_kept, gets_kept, then_kept}
 use Rattle.p11_alu.specs.CountedShifts.{ash_of, ashc_of}
 use Rattle.p11_alu.specs.Numbers.{val}
 use Rattle.p11_alu.specs.Products.{div_of, mul_of}
@@ -135,8 +135,8 @@ codes_within codes a h w = with_processor a h _ refl refl refl refl refl refl w
 set_codes_kept : (f : Codes → Codes) → Kept (set_codes f)
 set_codes_kept f = record { keeps = λ a turn h w. codes_within (f (codes_of h)) a h w }
 
-conclude_kept : {A : Type 0} (f : Codes → A × Codes) → Kept (conclude f)
-conclude_kept f = record { keeps = λ a turn h w. codes_within (f (codes_of h)).1 a h w }
+set_codes_for_kept : {A : Type 0} (f : Codes → A × Codes) → Kept (set_codes_for f)
+set_codes_for_kept f = record { keeps = λ a turn h w. codes_within (f (codes_of h)).1 a h w }
 
 -- RTI and RTT in user mode: the modes and the priority stay
 returned_within : (pc word : ℕ) (a h : HardwareState) → Within a h → Within a (resumed pc (status_from_return h.processor.status word) h)
@@ -157,7 +157,7 @@ set_kept : (r : registers.Register) (value : ℕ) → Kept (set r value)
 set_kept r value = change_kept (set_register_of r value) (set_within r value)
 
 get_kept : (r : registers.Register) → Kept (get r)
-get_kept r = look_kept (register_of r)
+get_kept r = gets_kept (register_of r)
 
 fail_kept : {A : Type 0} (vector : Vector) → Kept (fail {A = A} vector)
 fail_kept vector = record { keeps = λ a turn h w. tt }
@@ -165,28 +165,28 @@ fail_kept vector = record { keeps = λ a turn h w. tt }
 indexed_kept : (r : registers.Register) → Kept (indexed r)
 unfolding indexed
 indexed_kept r =
-    then_kept (step_up_kept Pc 2) (λ pc. then_kept (read_kept Word pc) (λ index. then_kept (look_kept (register_of r)) (λ base. give_kept (plus index base))))
+    then_kept (step_up_kept Pc 2) (λ pc. then_kept (read_kept Word pc) (λ index. then_kept (gets_kept (register_of r)) (λ base. pure_kept (plus index base))))
 
 place_in_kept : (mode : modes.Mode) (size : Size) (r : registers.Register) → Kept (place_in mode size r)
 unfolding place_in
-place_in_kept Register size r = give_kept (places.Register r)
-place_in_kept RegisterDeferred size r = look_kept (λ h. places.Memory (register_of r h))
-place_in_kept AutoIncrement size r = then_kept (step_up_kept r (step_of size r)) (λ a. give_kept (places.Memory a))
+place_in_kept Register size r = pure_kept (places.Register r)
+place_in_kept RegisterDeferred size r = gets_kept (λ h. places.Memory (register_of r h))
+place_in_kept AutoIncrement size r = then_kept (step_up_kept r (step_of size r)) (λ a. pure_kept (places.Memory a))
 place_in_kept AutoIncrementDeferred size r =
-    then_kept (then_kept (step_up_kept r 2) (read_kept Word)) (λ a. give_kept (places.Memory a))
-place_in_kept AutoDecrement size r = then_kept (step_down_kept r (step_of size r)) (λ a. give_kept (places.Memory a))
+    then_kept (then_kept (step_up_kept r 2) (read_kept Word)) (λ a. pure_kept (places.Memory a))
+place_in_kept AutoDecrement size r = then_kept (step_down_kept r (step_of size r)) (λ a. pure_kept (places.Memory a))
 place_in_kept AutoDecrementDeferred size r =
-    then_kept (then_kept (step_down_kept r 2) (read_kept Word)) (λ a. give_kept (places.Memory a))
-place_in_kept Index size r = then_kept (indexed_kept r) (λ a. give_kept (places.Memory a))
+    then_kept (then_kept (step_down_kept r 2) (read_kept Word)) (λ a. pure_kept (places.Memory a))
+place_in_kept Index size r = then_kept (indexed_kept r) (λ a. pure_kept (places.Memory a))
 place_in_kept IndexDeferred size r =
-    then_kept (then_kept (indexed_kept r) (read_kept Word)) (λ a. give_kept (places.Memory a))
+    then_kept (then_kept (indexed_kept r) (read_kept Word)) (λ a. pure_kept (places.Memory a))
 
 place_kept : (size : Size) (o : Operand) → Kept (place_of size o)
 place_kept size o = place_in_kept o.mode size o.register
 
 read_place_kept : (size : Size) (place : Place) → Kept (read_place_of size place)
 unfolding read_place_of
-read_place_kept size (places.Register r) = look_kept (λ h. val (width_of size) (register_of r h))
+read_place_kept size (places.Register r) = gets_kept (λ h. val (width_of size) (register_of r h))
 read_place_kept size (places.Memory a) = read_kept size a
 
 write_place_kept : (size : Size) (place : Place) (value : ℕ) → Kept (write_place_of size place value)
@@ -209,12 +209,12 @@ operands_kept : (size : Size) (source destination : Operand) → Kept (operands_
 unfolding operands_of
 operands_kept size source destination =
     either_kept (is_mode_0 source.mode) _ _
-    (then_kept (place_kept size destination) (λ p. then_kept (value_kept size source) (λ s. give_kept (record { source = s; place = p }))))
-    (then_kept (value_kept size source) (λ s. then_kept (place_kept size destination) (λ p. give_kept (record { source = s; place = p }))))
+    (then_kept (place_kept size destination) (λ p. then_kept (value_kept size source) (λ s. pure_kept (record { source = s; place = p }))))
+    (then_kept (value_kept size source) (λ s. then_kept (place_kept size destination) (λ p. pure_kept (record { source = s; place = p }))))
 
 address_kept : (place : Place) → Kept (address_in place)
 address_kept (places.Register r) = fail_kept BusError
-address_kept (places.Memory a) = give_kept a
+address_kept (places.Memory a) = pure_kept a
 
 target_kept : (o : Operand) → Kept (target_of o)
 unfolding target_of
@@ -268,32 +268,32 @@ pub execute_kept : (op : Op) → Kept (execute_of op)
 unfolding execute_of
 execute_kept (ops.Single op size o) =
     then_kept (place_kept size o) (λ place. then_kept (read_place_kept size place)
-    (λ number. then_kept (conclude_kept (single_of op size number)) (λ result. write_place_kept size place result)))
+    (λ number. then_kept (set_codes_for_kept (single_of op size number)) (λ result. write_place_kept size place result)))
 execute_kept (ops.StoreOnly op size o) =
     then_kept (place_kept size o)
-    (λ place. then_kept (conclude_kept (store_only_of op size)) (λ result. write_place_kept size place result))
+    (λ place. then_kept (set_codes_for_kept (store_only_of op size)) (λ result. write_place_kept size place result))
 execute_kept (ops.Tst size o) = then_kept (value_kept size o) (λ number. set_codes_kept (λ _. logic_codes (width_of size) number false))
 execute_kept (ops.Modify op size source destination) =
     then_kept (operands_kept size source destination) (λ taken. then_kept (read_place_kept size taken.place)
-    (λ number. then_kept (conclude_kept (modify_of op size taken.source number))
+    (λ number. then_kept (set_codes_for_kept (modify_of op size taken.source number))
     (λ result. write_place_kept size taken.place result)))
 execute_kept (ops.Compare op size source destination) =
     then_kept (operands_kept size source destination) (λ taken. then_kept (read_place_kept size taken.place)
     (λ number. set_codes_kept (compare_of op size taken.source number)))
 execute_kept (ops.Mov size source destination) =
-    then_kept (operands_kept size source destination) (λ taken. then_kept (conclude_kept (bitwise size taken.source))
+    then_kept (operands_kept size source destination) (λ taken. then_kept (set_codes_for_kept (bitwise size taken.source))
     (λ result. write_moved_kept size taken.place result))
 execute_kept (ops.Mul r o) =
-    then_kept (value_kept Word o) (λ factor. then_kept (get_kept r) (λ number. then_kept (conclude_kept (λ _. mul_of number factor))
+    then_kept (value_kept Word o) (λ factor. then_kept (get_kept r) (λ number. then_kept (set_codes_for_kept (λ _. mul_of number factor))
     (λ product. change_kept (set_pair_of r product) (pair_within r product))))
 execute_kept (ops.Div r o) =
-    then_kept (value_kept Word o) (λ divisor. then_kept (look_kept (pair_of_registers r)) (λ pair. then_kept (set_codes_kept (λ _. (div_of pair divisor).codes))
+    then_kept (value_kept Word o) (λ divisor. then_kept (gets_kept (pair_of_registers r)) (λ pair. then_kept (set_codes_kept (λ _. (div_of pair divisor).codes))
     (λ _. change_kept (quotient_stored r (div_of pair divisor)) (quotient_within r (div_of pair divisor)))))
 execute_kept (ops.Ash r o) =
-    then_kept (value_kept Word o) (λ count. then_kept (get_kept r) (λ number. then_kept (conclude_kept (λ _. ash_of number count))
+    then_kept (value_kept Word o) (λ count. then_kept (get_kept r) (λ number. then_kept (set_codes_for_kept (λ _. ash_of number count))
     (λ shifted. set_kept r shifted)))
 execute_kept (ops.Ashc r o) =
-    then_kept (value_kept Word o) (λ count. then_kept (look_kept (pair_of_registers r)) (λ pair. then_kept (conclude_kept (λ _. ashc_of pair count))
+    then_kept (value_kept Word o) (λ count. then_kept (gets_kept (pair_of_registers r)) (λ pair. then_kept (set_codes_for_kept (λ _. ashc_of pair count))
     (λ shifted. change_kept (set_pair_of r shifted) (pair_within r shifted))))
 execute_kept (ops.Branch condition offset) = change_kept (branched condition offset) (branched_within condition offset)
 execute_kept (ops.Jmp o) = then_kept (target_kept o) (set_kept Pc)
@@ -316,9 +316,9 @@ execute_kept ops.Wait = change_kept waiting waiting_within
 execute_kept ops.Reset = reset_kept
 execute_kept (ops.Mfpi o) =
     then_kept (place_kept Word o) (λ place. then_kept (read_previous_place_kept place)
-    (λ word. then_kept (step_down_kept Sp 2) (λ top. then_kept (conclude_kept (bitwise Word word))
+    (λ word. then_kept (step_down_kept Sp 2) (λ top. then_kept (set_codes_for_kept (bitwise Word word))
     (λ result. write_kept Word top result))))
 execute_kept (ops.Mtpi o) =
-    then_kept pop_kept (λ word. then_kept (place_kept Word o) (λ place. then_kept (conclude_kept (bitwise Word word))
+    then_kept pop_kept (λ word. then_kept (place_kept Word o) (λ place. then_kept (set_codes_for_kept (bitwise Word word))
     (λ result. write_previous_place_kept place result)))
 execute_kept ops.Reserved = fail_kept ReservedInstruction

@@ -29,7 +29,7 @@ use Rattle.p11_cpu.specs.declared.trap.Trap.{Trap}
 use Rattle.p11_cpu.specs.Confinement.{IsReached}
 use Rattle.p11_cpu.specs.References.{address_or_trap, after_read, answers, by_part, change, limit_address, part_at, reached, read_at, read_bus_byte, read_bus_word, read_in, see, status_address, translated, write_at, write_bus_byte, write_bus_word, write_in}
 use Rattle.p11_cpu.specs.State.{HardwareState}
-use Rattle.p11_cpu.specs.Step.{Step, ◌>>=◌, after, fail, give}
+use Rattle.p11_cpu.specs.Step.{Step, ◌>>=◌, after, fail, pure}
 use Rattle.p11_cpu.proofs.Confined.{Confines, IfGives, Kept, Laws, SameBus, SameManagement, Within, either_gives}
 
 -- WHERE A REFERENCE LANDS
@@ -157,7 +157,7 @@ read_word_kept pa turn a h below w = shown a _ _ (see turn pa h) (read_within pa
 even_below : (pa : ℕ) → pa < 0o760000 → even pa < 0o760000
 even_below pa below = omega arith
 
-half_given : (a : HardwareState) (turn pa : ℕ) (p : HardwareState × Result ℕ Trap) → IfGives (Within a) p → IfGives (Within a) (after turn p (λ word. give (byte_at pa word)))
+half_given : (a : HardwareState) (turn pa : ℕ) (p : HardwareState × Result ℕ Trap) → IfGives (Within a) p → IfGives (Within a) (after turn p (λ word. pure (byte_at pa word)))
 half_given a turn pa (h, Ok word) w = w
 half_given a turn pa (h, Err trap) w = tt
 

@@ -30,7 +30,7 @@ use Rattle.p11_cpu.specs.Registers.{register_of}
 use Rattle.p11_cpu.specs.Kept.OnBus.{with_bus_of}
 use Rattle.p11_cpu.specs.State.{HardwareState, Processor, State, hardware_of}
 use Rattle.p11_cpu.specs.Turns.{completed, decoded_at_pc, devices_acted, hardware_turn_of, instruction_of, instruction_run, marks_cleared, pc_taken, request_granted, served_or_run, traps_served, turn_of, yellow_zone_trap}
-use Rattle.p11_cpu.proofs.Confined.{Confines, IfGives, Kept, Laws, SameBus, SameManagement, SameProcessor, Within, change_kept, give_kept, look_kept, then_kept}
+use Rattle.p11_cpu.proofs.Confined.{Confines, IfGives, Kept, Laws, SameBus, SameManagement, SameProcessor, Within, change_kept, pure_kept, gets_kept, then_kept}
 use Rattle.p11_cpu.proofs.ConfinedInstructions.{execute_kept, step_up_kept}
 use Rattle.p11_cpu.proofs.ConfinedReferences.{read_kept}
 
@@ -56,14 +56,14 @@ pc_within a h w =
 fetched_kept : Kept decoded_at_pc
 unfolding decoded_at_pc
 fetched_kept =
-    then_kept (look_kept (register_of Pc)) (λ pc. then_kept (read_kept Word pc)
-    (λ word. then_kept (step_up_kept Pc 2) (λ _. give_kept (op_of word))))
+    then_kept (gets_kept (register_of Pc)) (λ pc. then_kept (read_kept Word pc)
+    (λ word. then_kept (step_up_kept Pc 2) (λ _. pure_kept (op_of word))))
 
 instruction_kept : Kept instruction_of
 unfolding instruction_of
 instruction_kept =
     then_kept (change_kept pc_taken pc_within) (λ _. then_kept fetched_kept
-    (λ op. then_kept (execute_kept op) (λ _. give_kept (may_trace op))))
+    (λ op. then_kept (execute_kept op) (λ _. pure_kept (may_trace op))))
 
 -- WHAT FOLLOWS IT: nothing
 

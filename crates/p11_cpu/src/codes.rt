@@ -36,7 +36,7 @@ impl<A: Allocator> Hardware<A> {
     /// The same where C is as it was, so that it need not be written.
     #[tactic(auto, unfolding(crate::specs::Registers::codes_of, crate::specs::Registers::set_codes_of))]
     #[inline(always)]
-    pub fn set_codes_but_carry(&mut self, codes: Codes)
+    pub fn set_nzv(&mut self, codes: Codes)
         requires { codes.c ≡ (codes_of self.old).c }
         ensures { self.new ≡ set_codes_of codes self.old }
     {
@@ -47,7 +47,7 @@ impl<A: Allocator> Hardware<A> {
 
     /// Sets the condition codes of a result, and gives what it stores.
     #[inline(always)]
-    pub fn conclude(&mut self, done: (u16, Codes)) -> u16
+    pub fn set_codes_for(&mut self, done: (u16, Codes)) -> u16
         ensures state { self.new ≡ set_codes_of done.1 self.old }
         ensures value { result ≡ done.0 }
     {
@@ -58,13 +58,13 @@ impl<A: Allocator> Hardware<A> {
 
     /// The same where C is as it was.
     #[inline(always)]
-    pub fn conclude_but_carry(&mut self, done: (u16, Codes)) -> u16
+    pub fn set_nzv_for(&mut self, done: (u16, Codes)) -> u16
         requires { done.1.c ≡ (codes_of self.old).c }
         ensures state { self.new ≡ set_codes_of done.1 self.old }
         ensures value { result ≡ done.0 }
     {
         let (stored, codes) = done;
-        self.set_codes_but_carry(codes);
+        self.set_nzv(codes);
         stored
     }
 
