@@ -27,7 +27,7 @@ use Rattle.p11_cpu.specs.declared.part.Part.{Part}
 use Rattle.p11_cpu.specs.declared.part.Part.TheVariants as parts
 use Rattle.p11_cpu.specs.declared.trap.Trap.{Trap}
 use Rattle.p11_cpu.specs.Confinement.{IsReached}
-use Rattle.p11_cpu.specs.References.{address_or_trap, after_read, answers, by_part, change, limit_address, part_at, reached, read_at, read_bus_byte, read_bus_word, read_in, see, status_address, translated, write_at, write_bus_byte, write_bus_word, write_in}
+use Rattle.p11_cpu.specs.References.{address_or_trap, after_read, answers, bus_read, change, part_at, reached, read_at, read_bus_byte, read_bus_word, read_in, see, translated, write_at, write_bus_byte, write_bus_word, write_in}
 use Rattle.p11_cpu.specs.State.{HardwareState}
 use Rattle.p11_cpu.specs.Step.{Step, ◌>>=◌, after, fail, pure}
 use Rattle.p11_cpu.proofs.Confined.{Confines, IfGives, Kept, Laws, SameBus, SameManagement, Within, either_gives}
@@ -131,15 +131,15 @@ not_read : (b c : BusState) (t : Bool) (r : Option Register) → r ≡ None → 
 not_read b c true r e = refl
 not_read b c false r e = ap (λ (o : Option Register). read_there o b) e
 
-same_parts : (part : Part) (b c : BusState) → c ≡ b → by_part part b b b c ≡ b
-same_parts parts.Status b c e = refl
-same_parts parts.StackLimit b c e = refl
-same_parts parts.Management b c e = refl
-same_parts parts.Bus b c e = e
+same_parts : (part : Part) (pa : ℕ) (b : BusState) → bus.after_read pa b ≡ b → bus_read part pa b ≡ b
+same_parts parts.Status pa b e = refl
+same_parts parts.StackLimit pa b e = refl
+same_parts parts.Management pa b e = refl
+same_parts parts.Bus pa b e = e
 
-read_leaves : (pa : ℕ) (b : BusState) → devices.register_at pa ≡ None → by_part (part_at pa) b b b (bus.after_read pa b) ≡ b
+read_leaves : (pa : ℕ) (b : BusState) → devices.register_at pa ≡ None → bus_read (part_at pa) pa b ≡ b
 unfolding bus.after_read
-read_leaves pa b e = same_parts (part_at pa) b _ (not_read b b (has_word b.memory pa) (devices.register_at pa) e)
+read_leaves pa b e = same_parts (part_at pa) pa b (not_read b b (has_word b.memory pa) (devices.register_at pa) e)
 
 read_within : (pa : ℕ) (a h : HardwareState) → pa < 0o760000 → Within a h → Within a (after_read pa h)
 unfolding after_read
@@ -219,8 +219,8 @@ bus_changed m b c turn pa word none reach s = stored_or_not (has_word c.memory p
 bus_alone : (pa : ℕ) → pa < 0o760000 → management.answers pa ≡ false → part_at pa ≡ parts.Bus
 unfolding part_at
 bus_alone pa below none =
-    let one : (pa == status_address) ≡ false = grind (arith, nat_tests) in
-    let two : (pa == limit_address) ≡ false = grind (arith, nat_tests) in
+    let one : (pa == 0o777776) ≡ false = grind (arith, nat_tests) in
+    let two : (pa == 0o777774) ≡ false = grind (arith, nat_tests) in
     rw (one, two, none) refl
 
 -- a write below the I/O page changes the bus alone

@@ -1,7 +1,7 @@
 //! Which part of the machine answers at a bus address.
 ghost use Rattle.std.specs.Prelude.{◌≡◌, ◌==◌, ◌<◌, true};
 ghost use Rattle.p11_cpu.specs.declared.part.Part.TheVariants as parts;
-ghost use Rattle.p11_cpu.specs.References.{limit_address, part_at, status_address};
+ghost use Rattle.p11_cpu.specs.References.{part_at};
 
 use p11_kt11::Kt11;
 
@@ -36,7 +36,7 @@ pub(crate) enum Part {
 /// Whether the processor status word stands at a bus address.
 #[inline(always)]
 fn is_status(address: u32) -> bool
-    ensures { result ≡ (address == status_address) }
+    ensures { result ≡ (address == 0o777776) }
 {
     address == STATUS_ADDRESS
 }
@@ -44,7 +44,7 @@ fn is_status(address: u32) -> bool
 /// Whether the stack limit register stands at a bus address.
 #[inline(always)]
 fn is_limit(address: u32) -> bool
-    ensures { result ≡ (address == limit_address) }
+    ensures { result ≡ (address == 0o777774) }
 {
     address == LIMIT_ADDRESS
 }
