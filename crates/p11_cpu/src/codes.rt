@@ -1,10 +1,21 @@
 //! The condition codes.
 ghost use Rattle.std.specs.Prelude.{◌≡◌};
 ghost use Rattle.p11_cpu.specs.Registers.{codes_of, set_codes_of};
+ghost use Rattle.p11_cpu.specs.SingleOperand.{bitwise};
 
 use crate::hardware::Hardware;
-use p11_alu::Codes;
+use crate::words::width;
+use p11_alu::{Codes, logic};
+use p11_decode::Size;
 use std::alloc::Allocator;
+
+/// A bitwise result with its codes: C is as it was.
+#[inline(always)]
+fn bitwise(size: Size, word: u16, codes: Codes) -> (u16, Codes)
+    ensures { result ≡ bitwise size word codes }
+{
+    (word, logic(width(size), word, codes.c))
+}
 
 impl<A: Allocator> Hardware<A> {
     /// The condition codes of the status word.
@@ -66,6 +77,16 @@ impl<A: Allocator> Hardware<A> {
         let (stored, codes) = done;
         self.set_nzv(codes);
         stored
+    }
+
+    /// Sets the codes of a bitwise result, which leaves C, and gives what it stores.
+    #[inline(always)]
+    pub fn set_logic_codes_for(&mut self, size: Size, word: u16) -> u16
+        ensures state { self.new ≡ set_codes_of (bitwise size word (codes_of self.old)).1 self.old }
+        ensures value { result ≡ (bitwise size word (codes_of self.old)).0 }
+    {
+        let codes = self.codes();
+        self.set_nzv_for(bitwise(size, word, codes))
     }
 
     /// Whether N is set.
