@@ -6,7 +6,7 @@ use Rattle.p11_cpu.specs.State.{State}
 use Rattle.std.specs.Prelude.{MatchOption}
 use Rattle.p11_store.specs.Calls.Files.{NamedBytes, MemoryFiles, bytes_under, store_of}
 use Rattle.p11_panel.specs.Script.{ended_lines, script_lines}
-use Rattle.p11_panel.specs.Session.{with_store, LineDoes, Runs, Did, Broke, texts_of}
+use Rattle.p11_panel.specs.Session.{with_store, LineDoes, LinesRun, ScriptDone, ScriptCut, texts_of}
 use Rattle.p11_panel.specs.Calls.Sizes.{Sizes, is_size, sizes_of}
 use Rattle.p11_c.specs.Calls.{Lent, TookManyReads}
 use Rattle.p11_c.specs.Held.{Kept, Held, kept_of, new_kept}
@@ -46,35 +46,35 @@ module _ (A : Type 0) (p p' : State) (m m' : MemoryFiles) (answer start text : L
   kept' = kept_of p' m'.files text
 
   abbrev DidLines : List (List ℕ) → ℕ → Type 0
-  DidLines lines n = Did (LineDoes {A = A}) lines (with_store p (store_of m)) (holds_text start) (with_store p' (store_of m')) (holds_text text) n
+  DidLines lines n = ScriptDone (LineDoes {A = A}) lines (with_store p (store_of m)) (holds_text start) (with_store p' (store_of m')) (holds_text text) n
 
-  abbrev BrokeLines : List (List ℕ) → Type 0
-  BrokeLines lines = Broke (LineDoes {A = A}) lines (with_store p (store_of m)) (holds_text start) (with_store p' (store_of m')) (holds_text text)
+  abbrev CutLines : List (List ℕ) → Type 0
+  CutLines lines = ScriptCut (LineDoes {A = A}) lines (with_store p (store_of m)) (holds_text start) (with_store p' (store_of m')) (holds_text text)
 
   plays : (lines : List (List ℕ)) (n : ℕ) → DidLines lines n → Plays A lines kept kept'
   plays lines n did =
-      let P : ℕ → Type 0 = λ r. Runs (LineDoes {A = A}) lines (with_store p (store_of (record { files = m.files; refusals = r }))) did.answers (with_store p' (store_of m')) in
-      record { answers = did.answers; refusals = m'.refusals; runs = subst P zero did.runs; text_is = from_none start (texts_of did.answers) text none did.written.bytes }
+      let P : ℕ → Type 0 = λ r. LinesRun (LineDoes {A = A}) lines (with_store p (store_of (record { files = m.files; refusals = r }))) did.0 (with_store p' (store_of m')) in
+      record { answers = did.0; refusals = m'.refusals; runs = subst P zero did.1; text_is = from_none start (texts_of did.0) text none did.2.bytes }
 
-  stops : (lines : List (List ℕ)) → BrokeLines lines → Stops A lines kept kept'
+  stops : (lines : List (List ℕ)) → CutLines lines → Stops A lines kept kept'
   stops lines broke =
-      let P : ℕ → Type 0 = λ r. Runs (LineDoes {A = A}) broke.earlier (with_store p (store_of (record { files = m.files; refusals = r }))) broke.answers broke.before in
+      let P : ℕ → Type 0 = λ r. LinesRun (LineDoes {A = A}) broke.0 (with_store p (store_of (record { files = m.files; refusals = r }))) broke.7.0 broke.4 in
       record {
-        earlier = broke.earlier;
-        line = broke.line;
-        others = broke.others;
-        split = broke.split;
-        answers = broke.answers;
-        before = broke.before;
-        runs = subst P zero broke.runs;
-        answer = broke.answer;
+        earlier = broke.0;
+        line = broke.1;
+        others = broke.2;
+        split = broke.3;
+        answers = broke.7.0;
+        before = broke.4;
+        runs = subst P zero broke.7.1;
+        answer = broke.8;
         refusals = m'.refusals;
-        does = broke.does;
-        front = broke.part.front;
-        back = broke.part.back;
-        text_is = text_from broke.between.bytes start (texts_of broke.answers) broke.part.front text none broke.whole.bytes broke.part.written.bytes;
-        answer_is = broke.part.split;
-        unkept = broke.part.unwritten;
+        does = broke.9;
+        front = broke.10.front;
+        back = broke.10.back;
+        text_is = text_from broke.5.bytes start (texts_of broke.7.0) broke.10.front text none broke.7.2.bytes broke.10.written.bytes;
+        answer_is = broke.10.split;
+        unkept = broke.10.unwritten;
       }
 
   pub ends_done : (script : List ℕ) (left : Option (List ℕ)) (read : List ℕ) (n : ℕ) → Consumes (Some script) left read → IsAtEnd left → DidLines (script_lines read) n → LinesEnd A script Done kept kept'
@@ -89,19 +89,19 @@ module _ (A : Type 0) (p p' : State) (m m' : MemoryFiles) (answer start text : L
       let front = front_read script left read consumed in
       (read, front.0, front.1, (many, plays (ended_lines read) n did))
 
-  ends_front : (script : List ℕ) (left : Option (List ℕ)) (read : List ℕ) → Consumes (Some script) left read → BrokeLines (ended_lines read) → LinesEnd A script NoMemory kept kept'
+  ends_front : (script : List ℕ) (left : Option (List ℕ)) (read : List ℕ) → Consumes (Some script) left read → CutLines (ended_lines read) → LinesEnd A script NoMemory kept kept'
   unfolding LinesEnd
   ends_front script left read consumed broke =
       let front = front_read script left read consumed in
       inr (read, front.0, front.1, stops (ended_lines read) broke)
 
-  ends_last : (script : List ℕ) (left : Option (List ℕ)) (read : List ℕ) → Consumes (Some script) left read → IsAtEnd left → BrokeLines (script_lines read) → LinesEnd A script NoMemory kept kept'
+  ends_last : (script : List ℕ) (left : Option (List ℕ)) (read : List ℕ) → Consumes (Some script) left read → IsAtEnd left → CutLines (script_lines read) → LinesEnd A script NoMemory kept kept'
   unfolding LinesEnd
   ends_last script left read consumed end broke =
       let P : List ℕ → Type 0 = λ s. Stops A (script_lines s) kept kept' in
       inl (subst P (all_read script left read consumed end) (stops (script_lines read) broke))
 
-  pub ends_broke : (script : List ℕ) (left : Option (List ℕ)) (read : List ℕ) → (Consumes (Some script) left read × BrokeLines (ended_lines read)) ⊎ (Consumes (Some script) left read × IsAtEnd left × BrokeLines (script_lines read)) → LinesEnd A script NoMemory kept kept'
+  pub ends_broke : (script : List ℕ) (left : Option (List ℕ)) (read : List ℕ) → (Consumes (Some script) left read × CutLines (ended_lines read)) ⊎ (Consumes (Some script) left read × IsAtEnd left × CutLines (script_lines read)) → LinesEnd A script NoMemory kept kept'
   ends_broke script left read (inl front) = ends_front script left read front.0 front.1
   ends_broke script left read (inr last) = ends_last script left read last.0 last.1 last.2
 

@@ -5,5 +5,6 @@ pub mod HeldLemmas
 pub mod Loosened
 pub mod ReadLemmas
 pub mod RowLemmas
+pub mod RunLemmas
 pub mod StoreLemmas
 pub mod TypedLemmas

@@ -5,7 +5,7 @@ use Rattle.std.proofs.lemmas.List.{take_all, length-drop}
 use Rattle.std.specs.List.{position, position_or_len}
 use Rattle.std.proofs.lemmas.Bool.Decides.{nat_tests}
 use Rattle.std.specs.List.{flat_map}
-use Rattle.p11_panel.specs.Script.{in_front, pieces_of}
+use Rattle.p11_panel.specs.Kept.Pieces.{in_front, cut_at_lf}
 use Rattle.p11_c.specs.Typed.{escaped_value, written_past, written_in, typed_on, typed_in}
 
 pub written_behind : (passed : ℕ) (text : List ℕ) → written_past passed text ≡ written_past 0 (drop passed text)
@@ -51,22 +51,22 @@ front k x xs = let e : 1 + k ≡ suc k = omega arith in ap (λ (m : ℕ). take m
 lines_in_front : (x : ℕ) (piece : List ℕ) (ended pieces : List (List ℕ)) (last : List ℕ) → ended ≡ piece ∷ pieces → (in_front x ended last).ended ≡ (x ∷ piece) ∷ pieces
 lines_in_front x piece ended pieces last is = ap (λ (e : List (List ℕ)). (in_front x e last).ended) is
 
-pieces_at : (text : List ℕ) → position_or_len (λ byte. nat_eq byte 10) text < length text → (pieces_of text).ended ≡ take (position_or_len (λ byte. nat_eq byte 10) text) text ∷ (pieces_of (drop (position_or_len (λ byte. nat_eq byte 10) text + 1) text)).ended
-unfolding pieces_of
+pieces_at : (text : List ℕ) → position_or_len (λ byte. nat_eq byte 10) text < length text → (cut_at_lf text).ended ≡ take (position_or_len (λ byte. nat_eq byte 10) text) text ∷ (cut_at_lf (drop (position_or_len (λ byte. nat_eq byte 10) text + 1) text)).ended
+unfolding cut_at_lf
 pieces_at [] less = absurd (omega (arith, less))
 pieces_at (x ∷ xs) less = elim (cases_Bool (nat_eq x 10)) [
   | inl lf ↦ rw lf refl
   | inr other ↦
       let k : ℕ = position_or_len (λ byte. nat_eq byte 10) xs in
       let below : k < length xs = let h = rw other at less in omega (arith, h) in
-      let here : (in_front x (pieces_of xs).ended (pieces_of xs).last).ended ≡ (x ∷ take k xs) ∷ (pieces_of (drop (k + 1) xs)).ended = lines_in_front x (take k xs) (pieces_of xs).ended (pieces_of (drop (k + 1) xs)).ended (pieces_of xs).last (pieces_at xs below) in
-      let there : (x ∷ take k xs) ∷ (pieces_of (drop (k + 1) xs)).ended ≡ take (1 + k) (x ∷ xs) ∷ (pieces_of (drop (1 + k + 1) (x ∷ xs))).ended =
-      ap (λ (l : List ℕ). l ∷ (pieces_of (drop (k + 1) xs)).ended) (sym (front k x xs)) ∙ ap (λ (l : List ℕ). take (1 + k) (x ∷ xs) ∷ (pieces_of l).ended) (sym (behind k x xs)) in
+      let here : (in_front x (cut_at_lf xs).ended (cut_at_lf xs).last).ended ≡ (x ∷ take k xs) ∷ (cut_at_lf (drop (k + 1) xs)).ended = lines_in_front x (take k xs) (cut_at_lf xs).ended (cut_at_lf (drop (k + 1) xs)).ended (cut_at_lf xs).last (pieces_at xs below) in
+      let there : (x ∷ take k xs) ∷ (cut_at_lf (drop (k + 1) xs)).ended ≡ take (1 + k) (x ∷ xs) ∷ (cut_at_lf (drop (1 + k + 1) (x ∷ xs))).ended =
+      ap (λ (l : List ℕ). l ∷ (cut_at_lf (drop (k + 1) xs)).ended) (sym (front k x xs)) ∙ ap (λ (l : List ℕ). take (1 + k) (x ∷ xs) ∷ (cut_at_lf l).ended) (sym (behind k x xs)) in
       rw other (here ∙ there)
 ]
 
-no_pieces : (text : List ℕ) → length text ≤ position_or_len (λ byte. nat_eq byte 10) text → (pieces_of text).ended ≡ []
-unfolding pieces_of
+no_pieces : (text : List ℕ) → length text ≤ position_or_len (λ byte. nat_eq byte 10) text → (cut_at_lf text).ended ≡ []
+unfolding cut_at_lf
 no_pieces [] none = refl
 no_pieces (x ∷ xs) none = elim (cases_Bool (nat_eq x 10)) [
   | inl lf ↦ let h = rw lf at none in absurd (omega (arith, h))

@@ -5,7 +5,7 @@ use Rattle.p11_cpu.specs.State.{State}
 use Rattle.p11_cpu.specs.Operator.{new_machine}
 use Rattle.p11_store.specs.Calls.Files.{NamedBytes, MemoryFiles, store_of}
 use Rattle.p11_panel.specs.Script.{script_lines}
-use Rattle.p11_panel.specs.Session.{with_store, LineDoes, Runs, texts_of}
+use Rattle.p11_panel.specs.Session.{with_store, LineDoes, LinesRun, texts_of}
 use Rattle.p11_panel.specs.Calls.Sizes.{is_size}
 use Rattle.p11_c.specs.Rows.{IsRow, IsNoRow}
 use Rattle.p11_c.specs.Statuses.{number_of_status}
@@ -31,7 +31,7 @@ pub record PlaysOver (A : Type 0) (start : State) (given : List NamedBytes) (scr
   pub answers : List (Answer A)
   pub machine : State
   pub store : MemoryFiles
-  pub runs : Runs (LineDoes {A = A}) (script_lines script) (with_store start (store_of (unrefused given))) answers
+  pub runs : LinesRun (LineDoes {A = A}) (script_lines script) (with_store start (store_of (unrefused given))) answers
       (with_store machine (store_of store))
   pub text_is : text ≡ texts_of answers
   pub files_are : IsRow files store.files

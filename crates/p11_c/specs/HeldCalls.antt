@@ -6,9 +6,9 @@ use Rattle.p11_lines.specs.declared.answer.Answer.{Answer}
 use Rattle.p11_lines.specs.AnswerText.{text_of}
 use Rattle.p11_store.specs.Calls.Files.{NamedBytes, bytes_under, store_of, with_file}
 use Rattle.p11_panel.specs.Script.{ended_lines, script_lines}
-use Rattle.p11_panel.specs.Session.{SessionState, with_store, LineDoes, Runs, texts_of}
+use Rattle.p11_panel.specs.Session.{SessionState, with_store, LineDoes, LinesRun, texts_of}
 use Rattle.p11_panel.specs.Calls.Sizes.{is_size}
-use Rattle.p11_store.specs.Store.{Puts, Lacks, KeepsOthers}
+use Rattle.p11_store.specs.Store.{Puts, Has, KeepsOthers}
 use Rattle.p11_c.specs.Calls.{Lent, TookManyReads, holding, told_of, unrefused}
 use Rattle.p11_c.specs.Held.{Kept, Held, new_kept}
 use Rattle.p11_c.specs.Rows.{Fits, IsRow, IsNoRow, file_of}
@@ -25,7 +25,7 @@ state_of kept refusals = with_store kept.machine (store_of (record { files = kep
 pub record Plays (A : Type 0) (lines : List (List ℕ)) (kept kept' : Kept) : Type 0 where
   pub answers : List (Answer A)
   pub refusals : ℕ
-  pub runs : Runs (LineDoes {A = A}) lines (state_of kept 0) answers (state_of kept' refusals)
+  pub runs : LinesRun (LineDoes {A = A}) lines (state_of kept 0) answers (state_of kept' refusals)
   pub text_is : kept'.answer ≡ texts_of answers
 
 -- Lines up to one are done, itself included: all earlier text is kept, and a front of its own that isn't all of it.
@@ -36,7 +36,7 @@ pub record Stops (A : Type 0) (lines : List (List ℕ)) (kept kept' : Kept) : Ty
   pub split : lines ≡ earlier ++ line ∷ others
   pub answers : List (Answer A)
   pub before : SessionState
-  pub runs : Runs (LineDoes {A = A}) earlier (state_of kept 0) answers before
+  pub runs : LinesRun (LineDoes {A = A}) earlier (state_of kept 0) answers before
   pub answer : Answer A
   pub refusals : ℕ
   pub does : LineDoes line before (Some answer) (state_of kept' refusals)
@@ -116,7 +116,7 @@ without name files = filter (λ file. not (bytes_eq file.name name)) files
 -- other name what it had. Where the store has no file of the name, nothing changes.
 abbrev pub Forgets : List ℕ → Kept → Kept → Type 0
 Forgets name kept kept' = (kept' ≡ record kept { files = without name kept.files })
-    × Lacks (store_of (unrefused kept'.files)).files name
+    × Has (store_of (unrefused kept'.files)).files name None
     × KeepsOthers (store_of (unrefused kept.files)).files name (store_of (unrefused kept'.files)).files
 
 abbrev pub ForgetsFile : List ℕ → Status → Kept → Kept → Type 0

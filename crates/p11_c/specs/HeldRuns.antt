@@ -1,10 +1,14 @@
 -- A run that C asks for.
 use Rattle.std.specs.Prelude.{◌≡◌, ◌<◌, ℕ, Bool, List, ◌++◌, length, MatchOption}
+use Rattle.p11_lines.specs.declared.answer.Answer.{Answer}
 use Rattle.p11_lines.specs.declared.answer.Answer.TheVariants as answers
 use Rattle.p11_lines.specs.declared.answer.StopReason.{StopReason}
 use Rattle.p11_lines.specs.declared.answer.StopReason.TheVariants.{Halt, Turns, Idle, Memory}
 use Rattle.p11_lines.specs.AnswerText.{text_of}
-use Rattle.p11_panel.specs.Commands.{Stops, step_fault}
+use Rattle.p11_cpu.specs.State.{State}
+use Rattle.p11_panel.specs.Calls.Runs.{run_command}
+use Rattle.p11_panel.specs.Commands.{CommandStep}
+use Rattle.p11_panel.specs.Runs.{step_fault}
 use Rattle.p11_c.specs.Held.{Kept}
 use Rattle.p11_c.specs.declared.run.Run.{Run}
 use Rattle.p11_c.specs.declared.status.Status.{Status}
@@ -33,6 +37,12 @@ KeepsText NoMachine text answer = ⊥
 KeepsText NoFile text answer = ⊥
 KeepsText TooMany text answer = ⊥
 
+-- a run of n turns stops, as STEP makes it, or as CONTINUE does
+abbrev pub AnswersStop : {A : Type 0} → Bool → ℕ → State → Answer A → State → Type 0
+AnswersStop until_idle n s answer s' =
+    CommandStep s (run_command until_idle n) answer s'
+    × ((typed : List ℕ) × (reason : StopReason) × (k : ℕ) × (pc : ℕ) × (answer ≡ answers.Stop typed reason k pc))
+
 -- A run of n turns is made as STEP makes it, or, asked to stop where the machine idles, as CONTINUE does: its numbers are
 -- told, the text of its answer is kept, and the files stay.
 pub record MakesRun (A : Type 0) (until_idle : Bool) (n : ℕ) (status : Status) (kept kept' : Kept) (told : Run)
@@ -41,7 +51,7 @@ pub record MakesRun (A : Type 0) (until_idle : Bool) (n : ℕ) (status : Status)
   pub reason : StopReason
   pub turns : ℕ
   pub pc : ℕ
-  pub stops : Stops {A = A} until_idle n kept.machine (answers.Stop typed reason turns pc) kept'.machine
+  pub stops : CommandStep {A = A} kept.machine (run_command until_idle n) (answers.Stop typed reason turns pc) kept'.machine
   pub told_is : told ≡ told_run turns reason pc
   pub files_are : kept'.files ≡ kept.files
   pub text_kept : KeepsText status (text_of {A = A} (answers.Stop typed reason turns pc)) kept'.answer

@@ -3,7 +3,7 @@ use Rattle.std.specs.Prelude.{ℕ, ◌+◌, ◌*◌, ◌-◌, ◌%◌, zero, suc
 use Rattle.std.specs.Prelude.{codes, if◌then◌else◌}
 use Rattle.std.specs.List.{flat_map}
 use Rattle.std.specs.Str.{bytes_eq}
-use Rattle.p11_panel.specs.Script.{pieces_of}
+use Rattle.p11_panel.specs.Kept.Pieces.{cut_at_lf}
 
 -- the byte whose three octal digits stand in front
 unfoldable pub escaped_value : List ℕ → ℕ
@@ -27,4 +27,4 @@ typed_on line = if bytes_eq (take 4 line) (codes "TTY ") then written_in (drop 4
 
 -- what the lines of a text show
 unfoldable pub typed_in : List ℕ → List ℕ
-typed_in text = flat_map typed_on (pieces_of text).ended
+typed_in text = flat_map typed_on (cut_at_lf text).ended

@@ -1,9 +1,9 @@
 // A run as C sees it.
 ghost use Rattle.std.specs.Prelude.{◌≡◌, [], MatchOption};
 ghost use Rattle.p11_lines.specs.AnswerText.{text_of};
-ghost use Rattle.p11_panel.specs.Commands.{Stops, step_fault};
 ghost use Rattle.p11_panel.specs.Refusals.{IsRefused};
-ghost use Rattle.p11_c.specs.HeldRuns.{number_of_reason, told_run, KeepsText};
+ghost use Rattle.p11_panel.specs.Runs.{step_fault};
+ghost use Rattle.p11_c.specs.HeldRuns.{number_of_reason, told_run, KeepsText, AnswersStop};
 
 use crate::status::Status;
 use p11_lines::put_answer;
@@ -50,7 +50,7 @@ pub(crate) fn tell_run(turns: u32, reason: StopReason, pc: u16) -> Run
 
 /// Makes a run of so many turns.
 pub(crate) fn make_run(alloc: Global, panel: &mut Panel, turns: u32, until_idle: bool) -> Answer
-    ensures { MatchOption (step_fault turns panel.old) (Stops until_idle turns panel.old result panel.new)
+    ensures { MatchOption (step_fault turns panel.old) (AnswersStop until_idle turns panel.old result panel.new)
         (λ fault. IsRefused fault panel.old result panel.new) }
 {
     if until_idle {

@@ -4,7 +4,7 @@ ghost use Rattle.std.specs.List.{All};
 ghost use Rattle.p11_cpu.specs.Operator.{new_machine};
 ghost use Rattle.p11_store.specs.Calls.Files.{store_of};
 ghost use Rattle.p11_panel.specs.Script.{script_lines};
-ghost use Rattle.p11_panel.specs.Session.{with_store, LineDoes, Did};
+ghost use Rattle.p11_panel.specs.Session.{with_store, LineDoes, ScriptDone};
 ghost use Rattle.p11_c.specs.Calls.{PlaysOver, SessionGives, Refuses, TookManyReads, HandsOut, asked_for, lent};
 ghost use Rattle.p11_c.specs.Rows.{Fits};
 ghost use Rattle.p11_c.specs.Typed.{typed_in};
@@ -39,7 +39,7 @@ fn run_script<L: Ledger, M: Ledger>(
     requires name { blank.name ≡ M.name }
     requires parts { blank.parts ≡ M.parts }
     requires some { 0 < blank.parts }
-    ensures ok { IfOk result (λ text. (m : ℕ) × Did (LineDoes {A = Global}) (script_lines script.now)
+    ensures ok { IfOk result (λ text. (m : ℕ) × ScriptDone (LineDoes {A = Global}) (script_lines script.now)
         (with_store panel.old (store_of store.old)) (record { bytes = Some []; writes = None })
         (with_store panel.new (store_of store.new)) (record { bytes = Some text.items; writes = None }) m) }
     ensures err { IfErr result (λ status. (status ≡ Status.NoMemory)

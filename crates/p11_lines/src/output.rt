@@ -287,7 +287,7 @@ fn put_text<W: Sink, A: Allocator>(
     }
 }
 
-/// Writes the text of an answer, with no growth. A text of at most 4,096 bytes is one write, if the writer takes it
+/// Writes the text of an answer (chapter 22 of the book), with no growth. A text of at most 4,096 bytes is one write, if the writer takes it
 /// whole.
 ///
 /// Where the bytes of the writer are known, they gain exactly the text, and after `Broken` a front

@@ -342,7 +342,10 @@ fn machine_line<A: Allocator>(alloc: A, name: &[u8], args: &[u8]) -> Result<Line
     fixed_line(name, args).ok_or(Fault::BadLine)
 }
 
-/// Reads a line, which has no end of line with it.
+/// Reads a line of at most 4,096 bytes, which has no end of line with it (chapter 21 of the book). Addresses, words and
+/// numbers of drives are octal, counts and turns decimal.
+///
+/// # Errors
 ///
 /// `BadLine` for bytes that are no line; blank lines and remarks are none. `NoMemory` only for a
 /// line that holds a list or a name: memory is asked for last, so a line in error is always known as such.

@@ -15,7 +15,7 @@ pub trait Sink {
 
     ghost state: { Self → WriterState };
 
-    /// Takes a front of some bytes: how many they are.
+    /// Takes a front of some bytes: how many they are. The error is the writer's own; nothing is taken then.
     fn write(&mut self, bytes: &[u8]) -> io::Result<usize>
         ensures bound { WritesAtMost result bytes.now }
         ensures bytes { WriteAppends (state self.old).bytes (state self.new).bytes result bytes.now }

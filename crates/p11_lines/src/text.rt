@@ -95,7 +95,9 @@ fn deposit_text<A: Allocator>(alloc: A, address: u32, words: &[u16]) -> Result<V
     Ok(text.into_bytes())
 }
 
-/// The text of a line, with one space between words and no zeros at the front of a number.
+/// The text of a line, without an end of line: one space between words, addresses and words of the machine in octal,
+/// counts and turns in decimal, no zeros at the front of a number (chapter 21 of the book). The only error is want of
+/// memory.
 #[tactic(auto, unfolding(crate::specs::Calls::LineText::line_text))]
 pub fn line_of<A: Allocator>(alloc: A, line: &Line<A>) -> Result<Vec<u8, A>, NoMemory>
     ensures { IfOk result (λ text. text.items ≡ line_text line.now) }

@@ -20,8 +20,8 @@ use Rattle.p11_cpu.specs.OperatorDevices.{take_typed_of}
 use Rattle.p11_cpu.specs.State.{State}
 use Rattle.p11_cpu.specs.Turns.{after_turns, devices_acted, marks_cleared, turn_of}
 use Rattle.p11_panel.specs.declared.command.Command.{Command}
-use Rattle.p11_panel.specs.Commands.{Acts}
-use Rattle.p11_panel.specs.Confinement.{ConfinesRun, PlaysConfined, ServesNone, StaysConfined, last_stored, stored_or, stores_at}
+use Rattle.p11_panel.specs.Commands.{CommandStep}
+use Rattle.p11_panel.specs.Confinement.{ConfinesRun, CommandsConfined, ServesNone, StaysConfined, last_stored, stored_or, stores_at}
 
 -- the laws of a turn and of the acts of the devices on which this rests
 pub record Laws : Type 0 where
@@ -138,23 +138,23 @@ stop_confined k s last s' run typed c =
 
 -- LISTS OF COMMANDS
 
-pub plays_nothing_confined : (A : Type 0) (s : State) → PlaysConfined {A = A} s [] [] s
-unfolding PlaysConfined
-plays_nothing_confined A s = refl
+pub confined_nothing : (A : Type 0) (s : State) → CommandsConfined {A = A} s [] [] s
+unfolding CommandsConfined
+confined_nothing A s = refl
 
-plays_next : {A : Type 0} (commands : List (Command A)) (answers : List (Answer A)) (command : Command A) (answer : Answer A) (s s' s'' : State) → PlaysConfined s commands answers s' → Acts s' command answer s'' → ConfinesRun s' command answer s'' → PlaysConfined s (commands ++ command ∷ []) (answers ++ answer ∷ []) s''
-unfolding PlaysConfined
-plays_next [] [] command answer s s' s'' played act run =
-    let P : State → Type 0 = λ x. Acts x command answer s'' in
+confined_next : {A : Type 0} (commands : List (Command A)) (answers : List (Answer A)) (command : Command A) (answer : Answer A) (s s' s'' : State) → CommandsConfined s commands answers s' → CommandStep s' command answer s'' → ConfinesRun s' command answer s'' → CommandsConfined s (commands ++ command ∷ []) (answers ++ answer ∷ []) s''
+unfolding CommandsConfined
+confined_next [] [] command answer s s' s'' played act run =
+    let P : State → Type 0 = λ x. CommandStep x command answer s'' in
     let Q : State → Type 0 = λ x. ConfinesRun x command answer s'' in
     (s'', subst P played act, subst Q played run, refl)
-plays_next [] (a ∷ answers) command answer s s' s'' played act run = absurd played
-plays_next (c ∷ commands) [] command answer s s' s'' played act run = absurd played
-plays_next (c ∷ commands) (a ∷ answers) command answer s s' s'' played act run =
-    (played.0, played.1, played.2, plays_next commands answers command answer played.0 s' s'' played.3 act run)
+confined_next [] (a ∷ answers) command answer s s' s'' played act run = absurd played
+confined_next (c ∷ commands) [] command answer s s' s'' played act run = absurd played
+confined_next (c ∷ commands) (a ∷ answers) command answer s s' s'' played act run =
+    (played.0, played.1, played.2, confined_next commands answers command answer played.0 s' s'' played.3 act run)
 
 -- the same for a loop over a slice
-pub plays_more_confined : {A : Type 0} (commands : List (Command A)) (i : ℕ) (command : Command A) (answers more : List (Answer A)) (answer : Answer A) (s s' s'' : State) → i < length commands → command ≡ get_or commands i command → PlaysConfined s (take i commands) answers s' → Acts s' command answer s'' → ConfinesRun s' command answer s'' → more ≡ answers ++ answer ∷ [] → PlaysConfined s (take (i + 1) commands) more s''
-plays_more_confined {A} commands i command answers more answer s s' s'' h item played act run e =
-    let P : Command A → Type 0 = λ x. PlaysConfined s (take i commands ++ x ∷ []) (answers ++ answer ∷ []) s'' in
-    rw (take_more commands i command h, e) (subst P item (plays_next (take i commands) answers command answer s s' s'' played act run))
+pub confined_more : {A : Type 0} (commands : List (Command A)) (i : ℕ) (command : Command A) (answers more : List (Answer A)) (answer : Answer A) (s s' s'' : State) → i < length commands → command ≡ get_or commands i command → CommandsConfined s (take i commands) answers s' → CommandStep s' command answer s'' → ConfinesRun s' command answer s'' → more ≡ answers ++ answer ∷ [] → CommandsConfined s (take (i + 1) commands) more s''
+confined_more {A} commands i command answers more answer s s' s'' h item played act run e =
+    let P : Command A → Type 0 = λ x. CommandsConfined s (take i commands ++ x ∷ []) (answers ++ answer ∷ []) s'' in
+    rw (take_more commands i command h, e) (subst P item (confined_next (take i commands) answers command answer s s' s'' played act run))

@@ -3,28 +3,28 @@ use Rattle.std.proofs.Common.{[], ◌∷◌, ◌++◌, refl, sym, ap, subst, ◌
 use Rattle.std.proofs.lemmas.List.Elements.{All-head, All-tail}
 use Rattle.p11_cpu.specs.State.{State}
 use Rattle.p11_cpu.specs.Operator.{new_machine}
-use Rattle.p11_panel.specs.Play.{Plays}
-use Rattle.p11_panel.specs.Laws.Outcomes.{HadMemory, RunsHaveOneOutcome}
+use Rattle.p11_panel.specs.Play.{CommandsRun}
+use Rattle.p11_panel.specs.Laws.Outcomes.{HadMemory}
 use Rattle.p11_panel.specs.Laws.Flush.{FlushShowsNothing, LinesShowNothing}
-use Rattle.p11_panel.proofs.OutcomeLemmas.{acts_once, plays_once}
+use Rattle.p11_panel.proofs.OutcomeLemmas.{step_once, commands_once}
 
-pub flush_out : {A : Type 0} → RunsHaveOneOutcome → FlushShowsNothing A
-unfolding Plays
-flush_out law s [] behind [] others s' t' h k m l = absurd h
-flush_out {A} law s [] behind (answer ∷ more) others s' t' h k m l =
-    let P : State → Type 0 = λ x. Plays {A = A} x behind more s' in
-    let same = plays_once law s behind more others s' t' (subst P h.1.1 h.2) k (All-tail HadMemory answer more m) l in
+pub flush_out : {A : Type 0} → FlushShowsNothing A
+unfolding CommandsRun
+flush_out s [] behind [] others s' t' h k m l = absurd h
+flush_out {A} s [] behind (answer ∷ more) others s' t' h k m l =
+    let P : State → Type 0 = λ x. CommandsRun {A = A} x behind more s' in
+    let same = commands_once s behind more others s' t' (subst P h.1.1 h.2) k (All-tail HadMemory answer more m) l in
     (([], more, refl, ap (λ a. a ∷ more) h.1.0, sym same.0), same.1)
-flush_out law s (command ∷ before) behind [] others s' t' h k m l = absurd h
-flush_out law s (command ∷ before) behind (answer ∷ given) [] s' t' h k m l = absurd k
-flush_out {A} law s (command ∷ before) behind (answer ∷ given) (other ∷ others) s' t' h k m l =
-    let first = acts_once law s command answer other h.0 k.0 h.1 k.1 (All-head HadMemory answer given m) (All-head HadMemory other others l) in
-    let P : State → Type 0 = λ x. Plays {A = A} x (before ++ _ ∷ behind) given s' in
-    let after = flush_out law k.0 before behind given others s' t' (subst P first.1 h.2) k.2 (All-tail HadMemory answer given m) (All-tail HadMemory other others l) in
+flush_out s (command ∷ before) behind [] others s' t' h k m l = absurd h
+flush_out s (command ∷ before) behind (answer ∷ given) [] s' t' h k m l = absurd k
+flush_out {A} s (command ∷ before) behind (answer ∷ given) (other ∷ others) s' t' h k m l =
+    let first = step_once s command answer other h.0 k.0 h.1 k.1 (All-head HadMemory answer given m) (All-head HadMemory other others l) in
+    let P : State → Type 0 = λ x. CommandsRun {A = A} x (before ++ _ ∷ behind) given s' in
+    let after = flush_out k.0 before behind given others s' t' (subst P first.1 h.2) k.2 (All-tail HadMemory answer given m) (All-tail HadMemory other others l) in
     let rest = after.0 in
     ((answer ∷ rest.0, rest.1, ap suc rest.2, ap (λ more. answer ∷ more) rest.3, ap (λ a. a ∷ others) (sym first.0) ∙ ap (λ more. answer ∷ more) rest.4), after.1)
 
-pub lines_show_nothing : {A : Type 0} → RunsHaveOneOutcome → LinesShowNothing A
-lines_show_nothing {A} law one other commands given others s' t' same h k m l =
-    let P : State → Type 0 = λ x. Plays {A = A} x commands given s' in
-    plays_once law (new_machine other.kwords) commands given others s' t' (subst P (ap new_machine same) h) k m l
+pub lines_show_nothing : {A : Type 0} → LinesShowNothing A
+lines_show_nothing {A} one other commands given others s' t' same h k m l =
+    let P : State → Type 0 = λ x. CommandsRun {A = A} x commands given s' in
+    commands_once (new_machine other.kwords) commands given others s' t' (subst P (ap new_machine same) h) k m l

@@ -72,6 +72,13 @@ pub reads_more : (address n word : ℕ) (words : List ℕ) (s s' s'' : State) �
 unfolding reads_at
 reads_more address n word words s s' s'' e f = rw (add-one n, e, f) refl
 
+-- one word alone is read
+pub reads_one : (address : ℕ) (s : State) → reads_at address 1 s ≡ ((examine_of address s).0, (examine_of address s).1 ∷ [])
+unfolding reads_at
+reads_one address s =
+    let same : address + 2 * 0 ≡ address = omega arith in
+    rw same refl
+
 -- one more key is pressed
 pressed_push : (keys : List ℕ) (key : ℕ) (s : State) → pressed (keys ++ key ∷ []) s ≡ (key_of key (pressed keys s)).0
 unfolding pressed

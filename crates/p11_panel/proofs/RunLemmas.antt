@@ -1,6 +1,6 @@
 -- One more turn of a run.
 use Rattle.std.proofs.Common.{◌≡◌, ℕ, zero, suc, ◌+◌, ◌-◌, ◌<◌, ◌≤◌, Bool, true, false, cond, ◌==◌, Option, Some, None, MatchOption, Result, Ok, Err, refl, ap, subst, sym, ◌∙◌, arith, inl, inr, add-one}
-use Rattle.std.proofs.lemmas.Bool.{cases_lt}
+use Rattle.std.proofs.lemmas.Bool.{cases_lt, lt-ltb}
 use Rattle.std.specs.Result.{IsOk, is_err}
 use Rattle.p11_lines.specs.declared.answer.StopReason.{StopReason}
 use Rattle.p11_lines.specs.declared.answer.StopReason.TheVariants as reasons
@@ -11,7 +11,12 @@ use Rattle.p11_cpu.specs.OperatorDevices.{is_idle}
 use Rattle.p11_cpu.specs.State.{State}
 use Rattle.p11_cpu.specs.Prepared.{needs_memory}
 use Rattle.p11_cpu.specs.Turns.{after_turns, turn_of}
-use Rattle.p11_panel.specs.Runs.{stops_idling, is_halt, last_halted, stop_of, IsMemory, IsRun}
+use Rattle.p11_panel.specs.Calls.Runs.{stops_idling, stop_of, IsMemory, IsRun}
+use Rattle.p11_panel.specs.Runs.{last_halted}
+
+abbrev is_halt : Turn → Bool
+is_halt Halted = true
+is_halt Ran = false
 
 -- k turns of a run of n are made, none of them halted, and no fewer stopped it
 pub record Goes (idles : State → Bool) (n : ℕ) (s : State) (k : ℕ) (s' : State) : Type 0 where
@@ -47,9 +52,17 @@ after_one : (k : ℕ) (s s' z : State) (t : Turn) → s' ≡ after_turns k s →
 unfolding after_turns
 after_one k s s' z t e f = rw (add-one k) (ap (λ r. r.0) (sym f) ∙ ap (λ x. (turn_of x).0) e)
 
+halt_is : (b : Bool) → is_halt (cond b Halted Ran) ≡ b
+halt_is true = refl
+halt_is false = refl
+
+turn_halts : (s : State) → is_halt (turn_of s).1 ≡ (turn_of s).0.processor.halted
+unfolding turn_of
+turn_halts s = halt_is _
+
 halted_one : (k : ℕ) (s s' z : State) (t : Turn) → s' ≡ after_turns k s → turn_of s' ≡ (z, t) → last_halted (k + 1) s ≡ is_halt t
-unfolding last_halted
-halted_one k s s' z t e f = rw (add-one k) (ap (λ x. is_halt (turn_of x).1) (sym e) ∙ ap (λ r. is_halt r.1) f)
+unfolding after_turns last_halted
+halted_one k s s' z t e f = rw (add-one k, lt-ltb 0 (suc k) (omega arith)) (sym (turn_halts (after_turns k s)) ∙ ap (λ x. is_halt (turn_of x).1) (sym e) ∙ ap (λ r. is_halt r.1) f)
 
 -- a turn that doesn't halt
 pub one_more : (idles : State → Bool) (n k : ℕ) (s s' z : State) → k < n → idles s' ≡ false → Goes idles n s k s' → turn_of s' ≡ (z, Ran) → Goes idles n s (k + 1) z
@@ -140,24 +153,16 @@ turns_after (suc j) k s =
     let number : suc (k + j) ≡ k + suc j = omega arith in
     ap (λ x. (turn_of x).0) (turns_after j k s) ∙ ap (λ n. after_turns n s) number
 
-halt_is : (b : Bool) → is_halt (cond b Halted Ran) ≡ b
-halt_is true = refl
-halt_is false = refl
-
-turn_halts : (s : State) → is_halt (turn_of s).1 ≡ (turn_of s).0.processor.halted
-unfolding turn_of
-turn_halts s = halt_is _
-
 -- a run whose machine hasn't halted isn't over for that
 not_halted : (k : ℕ) (s : State) → (after_turns k s).processor.halted ≡ false → last_halted k s ≡ false
 unfolding after_turns last_halted
 not_halted zero s h = refl
-not_halted (suc k) s h = turn_halts (after_turns k s) ∙ h
+not_halted (suc k) s h = rw (lt-ltb 0 (suc k) (omega arith)) h
 
 has_halted : (k : ℕ) (s : State) → 0 < k → (after_turns k s).processor.halted ≡ true → last_halted k s ≡ true
 unfolding after_turns last_halted
 has_halted zero s below h = absurd (omega (arith, below))
-has_halted (suc k) s below h = turn_halts (after_turns k s) ∙ h
+has_halted (suc k) s below h = rw (lt-ltb 0 (suc k) (omega arith)) h
 
 -- a processor that doesn't wait doesn't idle
 works_on : (asked : Bool) (s : State) → IsBusy s.processor → stops_idling asked s ≡ false

@@ -16,11 +16,12 @@ use Rattle.p11_lines.specs.Written.{AppendsFront}
 use Rattle.p11_lines.proofs.Calls.{Writes-none, Writes-trans, calls_none, calls_trans, calls_last}
 use Rattle.p11_panel.specs.Kept.Buffer.{kept, pushed}
 use Rattle.p11_panel.specs.Readers.{ReaderState, Reads}
-use Rattle.p11_panel.specs.Script.{pieces_of, without_cr, ended_lines, script_lines}
-use Rattle.p11_panel.specs.Session.{SessionState, has_answer, LineDoes, Runs, Did, Broke, texts_of}
+use Rattle.p11_panel.specs.Kept.Pieces.{cut_at_lf}
+use Rattle.p11_panel.specs.Script.{without_cr, ended_lines, script_lines}
+use Rattle.p11_panel.specs.Session.{SessionState, has_answer, LineDoes, LinesRun, ScriptDone, ScriptCut, texts_of}
 use Rattle.p11_panel.specs.Kept.Standing.{Stands}
 use Rattle.p11_panel.proofs.BufferLemmas.{kept_nil, kept_push}
-use Rattle.p11_panel.proofs.ScriptLemmas.{lines_at_lf, last_at_lf, lines_at_other, last_at_other, lines_front}
+use Rattle.p11_panel.proofs.ScriptLemmas.{all_lines, lines_at_lf, last_at_lf, lines_at_other, last_at_other, lines_front}
 
 -- a line that is too long
 pub long_line : (A : Type 0) (line : List ℕ) (s : SessionState) → 4096 < length line → LineDoes {A = A} line s (Some (answers.Refused BadLine)) s
@@ -30,8 +31,8 @@ long_line A line s lt = rw (lt-ltb _ _ lt, lt-leb _ _ lt) (refl, refl)
 -- one line more
 module _ {S A : Type 0} (Does : List ℕ → S → Option (Answer A) → S → Type 0) where
   runs_push : (lines : List (List ℕ)) (s : S) (answers : List (Answer A)) (s' : S) (line : List ℕ) (answer : Option (Answer A)) (s'' : S)
-      → Runs Does lines s answers s' → Does line s' answer s'' → Runs Does (lines ++ line ∷ []) s (answers ++ option_to_list answer) s''
-  unfolding Runs
+      → LinesRun Does lines s answers s' → Does line s' answer s'' → LinesRun Does (lines ++ line ∷ []) s (answers ++ option_to_list answer) s''
+  unfolding LinesRun
   runs_push [] s answers s' line answer s'' r d =
       (answer, s'', [], subst (λ (x : S). Does line x answer s'') r.1 d, (refl, refl), ap (λ (x : List (Answer A)). x ++ option_to_list answer) r.0 ∙ sym (append-nil (option_to_list answer)))
   runs_push (l ∷ lines) s answers s' line answer s'' r d = (
@@ -45,32 +46,19 @@ module _ {S A : Type 0} (Does : List ℕ → S → Option (Answer A) → S → T
 
 module _ {S A : Type 0} {Does : List ℕ → S → Option (Answer A) → S → Type 0} where
   -- one line more is done
-  did_push : (lines : List (List ℕ)) (s : S) (a : WriterState) (s' : S) (b : WriterState) (n : ℕ) (line : List ℕ) (answer : Option (Answer A)) (s'' : S) (c : WriterState) (k : ℕ)
-      → Did Does lines s a s' b n → Does line s' answer s'' → Writes b c (texts_of (option_to_list answer)) [] → k ≡ length (option_to_list answer) → Did Does (lines ++ line ∷ []) s a s'' c (n + k)
-  did_push lines s a s' b n line answer s'' c k h d w e = record {
-    answers = h.answers ++ option_to_list answer;
-    runs = runs_push Does lines s h.answers s' line answer s'' h.runs d;
-    written = rw flat_map-append (Writes-trans a b c (texts_of h.answers) (texts_of (option_to_list answer)) [] h.written w);
-    counted = omega (arith, h.counted, length-append h.answers (option_to_list answer));
-  }
+  done_push : (lines : List (List ℕ)) (s : S) (a : WriterState) (s' : S) (b : WriterState) (n : ℕ) (line : List ℕ) (answer : Option (Answer A)) (s'' : S) (c : WriterState) (k : ℕ)
+      → ScriptDone Does lines s a s' b n → Does line s' answer s'' → Writes b c (texts_of (option_to_list answer)) [] → k ≡ length (option_to_list answer) → ScriptDone Does (lines ++ line ∷ []) s a s'' c (n + k)
+  done_push lines s a s' b n line answer s'' c k h d w e = (
+    h.0 ++ option_to_list answer,
+    runs_push Does lines s h.0 s' line answer s'' h.1 d,
+    rw flat_map-append (Writes-trans a b c (texts_of h.0) (texts_of (option_to_list answer)) [] h.2 w),
+    omega (arith, h.3, length-append h.0 (option_to_list answer)),
+  )
 
   -- one line more is done, and not all of its text is written
-  broke_push : (lines more : List (List ℕ)) (s : S) (a : WriterState) (s' : S) (b : WriterState) (n : ℕ) (line : List ℕ) (answer : Answer A) (s'' : S) (c : WriterState)
-      → Did Does lines s a s' b n → Does line s' (Some answer) s'' → AppendsFront b c (text_of answer) → Broke Does (lines ++ line ∷ more) s a s'' c
-  broke_push lines more s a s' b n line answer s'' c h d w = record {
-    earlier = lines;
-    line = line;
-    others = more;
-    split = refl;
-    answers = h.answers;
-    before = s';
-    runs = h.runs;
-    answer = answer;
-    does = d;
-    between = b;
-    whole = h.written;
-    part = w;
-  }
+  cut_push : (lines more : List (List ℕ)) (s : S) (a : WriterState) (s' : S) (b : WriterState) (n : ℕ) (line : List ℕ) (answer : Answer A) (s'' : S) (c : WriterState)
+      → ScriptDone Does lines s a s' b n → Does line s' (Some answer) s'' → AppendsFront b c (text_of answer) → ScriptCut Does (lines ++ line ∷ more) s a s'' c
+  cut_push lines more s a s' b n line answer s'' c h d w = (lines, line, more, refl, s', b, n, h, answer, d, w)
 
   -- a byte other than LF
   pub stands_byte : (read : List ℕ) (s : S) (a : WriterState) (s' : S) (b : WriterState) (n : ℕ) (buffer after : Option (List ℕ)) (byte : ℕ)
@@ -78,8 +66,8 @@ module _ {S A : Type 0} {Does : List ℕ → S → Option (Answer A) → S → T
   stands_byte read s a s' b n buffer after byte h ne e =
       let other : nat_eq byte 10 ≡ false = ne_eqb byte 10 ne in
       record {
-        did = rw (lines_at_other read byte other, add-zero) h.did;
-        buffer_is = e ∙ (ap (λ (x : Option (List ℕ)). pushed x byte) h.buffer_is ∙ (kept_push (pieces_of read).last byte ∙ ap kept (sym (last_at_other read byte other))));
+        done = rw (lines_at_other read byte other, add-zero) h.done;
+        buffer_is = e ∙ (ap (λ (x : Option (List ℕ)). pushed x byte) h.buffer_is ∙ (kept_push (cut_at_lf read).last byte ∙ ap kept (sym (last_at_other read byte other))));
       }
 
   -- LF
@@ -90,65 +78,66 @@ module _ {S A : Type 0} {Does : List ℕ → S → Option (Answer A) → S → T
   stands_line read s a s' b n buffer after byte answer s'' c k h lf does w e nil =
       let is_lf : nat_eq byte 10 ≡ true = eq-eqb byte 10 lf in
       record {
-        did = subst (λ (x : List (List ℕ)). Did Does x s a s'' c (n + k)) (sym (lines_at_lf read byte is_lf))
-            (did_push (ended_lines read) s a s' b n (without_cr (pieces_of read).last) answer s'' c k h.did (does (pieces_of read).last h.buffer_is) w e);
+        done = subst (λ (x : List (List ℕ)). ScriptDone Does x s a s'' c (n + k)) (sym (lines_at_lf read byte is_lf))
+            (done_push (ended_lines read) s a s' b n (without_cr (cut_at_lf read).last) answer s'' c k h.done (does (cut_at_lf read).last h.buffer_is) w e);
         buffer_is = nil ∙ (sym kept_nil ∙ ap kept (sym (last_at_lf read byte is_lf)));
       }
 
-  pub broke_line : (read : List ℕ) (s : S) (a : WriterState) (s' : S) (b : WriterState) (n : ℕ) (buffer : Option (List ℕ)) (byte : ℕ) (answer : Answer A) (s'' : S) (c : WriterState)
+  pub cut_line : (read : List ℕ) (s : S) (a : WriterState) (s' : S) (b : WriterState) (n : ℕ) (buffer : Option (List ℕ)) (byte : ℕ) (answer : Answer A) (s'' : S) (c : WriterState)
       → Stands Does read s a s' b n buffer → byte ≡ 10 → ((piece : List ℕ) → buffer ≡ kept piece → Does (without_cr piece) s' (Some answer) s'')
-      → AppendsFront b c (text_of answer) → Broke Does (ended_lines (read ++ byte ∷ [])) s a s'' c
-  broke_line read s a s' b n buffer byte answer s'' c h lf does w =
-      subst (λ (x : List (List ℕ)). Broke Does x s a s'' c) (sym (lines_at_lf read byte (eq-eqb byte 10 lf)))
-      (broke_push (ended_lines read) [] s a s' b n (without_cr (pieces_of read).last) answer s'' c h.did (does (pieces_of read).last h.buffer_is) w)
+      → AppendsFront b c (text_of answer) → ScriptCut Does (ended_lines (read ++ byte ∷ [])) s a s'' c
+  cut_line read s a s' b n buffer byte answer s'' c h lf does w =
+      subst (λ (x : List (List ℕ)). ScriptCut Does x s a s'' c) (sym (lines_at_lf read byte (eq-eqb byte 10 lf)))
+      (cut_push (ended_lines read) [] s a s' b n (without_cr (cut_at_lf read).last) answer s'' c h.done (does (cut_at_lf read).last h.buffer_is) w)
 
   -- the last line
-  pub did_last : (read : List ℕ) (s : S) (a : WriterState) (s' : S) (b : WriterState) (n : ℕ) (buffer : Option (List ℕ)) (answer : Option (Answer A)) (s'' : S) (c : WriterState) (k : ℕ)
+  pub done_last : (read : List ℕ) (s : S) (a : WriterState) (s' : S) (b : WriterState) (n : ℕ) (buffer : Option (List ℕ)) (answer : Option (Answer A)) (s'' : S) (c : WriterState) (k : ℕ)
       → Stands Does read s a s' b n buffer → ((piece : List ℕ) → buffer ≡ kept piece → Does piece s' answer s'')
-      → Writes b c (texts_of (option_to_list answer)) [] → k ≡ length (option_to_list answer) → Did Does (script_lines read) s a s'' c (n + k)
-  did_last read s a s' b n buffer answer s'' c k h does w e =
-      did_push (ended_lines read) s a s' b n (pieces_of read).last answer s'' c k h.did (does (pieces_of read).last h.buffer_is) w e
+      → Writes b c (texts_of (option_to_list answer)) [] → k ≡ length (option_to_list answer) → ScriptDone Does (script_lines read) s a s'' c (n + k)
+  done_last read s a s' b n buffer answer s'' c k h does w e =
+      subst (λ (x : List (List ℕ)). ScriptDone Does x s a s'' c (n + k)) (sym (all_lines read))
+      (done_push (ended_lines read) s a s' b n (cut_at_lf read).last answer s'' c k h.done (does (cut_at_lf read).last h.buffer_is) w e)
 
-  pub broke_last : (read : List ℕ) (s : S) (a : WriterState) (s' : S) (b : WriterState) (n : ℕ) (buffer : Option (List ℕ)) (answer : Answer A) (s'' : S) (c : WriterState)
+  pub cut_last : (read : List ℕ) (s : S) (a : WriterState) (s' : S) (b : WriterState) (n : ℕ) (buffer : Option (List ℕ)) (answer : Answer A) (s'' : S) (c : WriterState)
       → Stands Does read s a s' b n buffer → ((piece : List ℕ) → buffer ≡ kept piece → Does piece s' (Some answer) s'')
-      → AppendsFront b c (text_of answer) → Broke Does (script_lines read) s a s'' c
-  broke_last read s a s' b n buffer answer s'' c h does w =
-      broke_push (ended_lines read) [] s a s' b n (pieces_of read).last answer s'' c h.did (does (pieces_of read).last h.buffer_is) w
+      → AppendsFront b c (text_of answer) → ScriptCut Does (script_lines read) s a s'' c
+  cut_last read s a s' b n buffer answer s'' c h does w =
+      subst (λ (x : List (List ℕ)). ScriptCut Does x s a s'' c) (sym (all_lines read))
+      (cut_push (ended_lines read) [] s a s' b n (cut_at_lf read).last answer s'' c h.done (does (cut_at_lf read).last h.buffer_is) w)
 
-  broke_wider : (lines others : List (List ℕ)) (s : S) (a : WriterState) (s' : S) (b : WriterState) → Broke Does lines s a s' b → Broke Does (lines ++ others) s a s' b
-  broke_wider lines others s a s' b h = record {
-    earlier = h.earlier;
-    line = h.line;
-    others = h.others ++ others;
-    split = ap (λ (x : List (List ℕ)). x ++ others) h.split ∙ append_assoc h.earlier (h.line ∷ h.others) others;
-    answers = h.answers;
-    before = h.before;
-    runs = h.runs;
-    answer = h.answer;
-    does = h.does;
-    between = h.between;
-    whole = h.whole;
-    part = h.part;
-  }
+  cut_wider : (lines others : List (List ℕ)) (s : S) (a : WriterState) (s' : S) (b : WriterState) → ScriptCut Does lines s a s' b → ScriptCut Does (lines ++ others) s a s' b
+  cut_wider lines others s a s' b h = (
+    h.0,
+    h.1,
+    h.2 ++ others,
+    ap (λ (x : List (List ℕ)). x ++ others) h.3 ∙ append_assoc h.0 (h.1 ∷ h.2) others,
+    h.4,
+    h.5,
+    h.6,
+    h.7,
+    h.8,
+    h.9,
+    h.10,
+  )
 
   -- what broke in the first bytes broke in all of them
-  pub broke_bytes : (read more : List ℕ) (s : S) (a : WriterState) (s' : S) (b : WriterState) → Broke Does (ended_lines read) s a s' b → Broke Does (ended_lines (read ++ more)) s a s' b
-  broke_bytes read more s a s' b h =
+  pub cut_bytes : (read more : List ℕ) (s : S) (a : WriterState) (s' : S) (b : WriterState) → ScriptCut Does (ended_lines read) s a s' b → ScriptCut Does (ended_lines (read ++ more)) s a s' b
+  cut_bytes read more s a s' b h =
       let front = lines_front read more in
-      subst (λ (x : List (List ℕ)). Broke Does x s a s' b) (sym front.1) (broke_wider (ended_lines read) front.0 s a s' b h)
+      subst (λ (x : List (List ℕ)). ScriptCut Does x s a s' b) (sym front.1) (cut_wider (ended_lines read) front.0 s a s' b h)
 
   -- the same bytes, and the same count
   pub stands_is : (read same : List ℕ) (s : S) (a : WriterState) (s' : S) (b : WriterState) (n m : ℕ) (buffer : Option (List ℕ)) → read ≡ same → n ≡ m → Stands Does read s a s' b n buffer → Stands Does same s a s' b m buffer
   stands_is read same s a s' b n m buffer e f h = subst (λ (x : List ℕ). Stands Does x s a s' b m buffer) e (subst (λ (k : ℕ). Stands Does read s a s' b k buffer) f h)
 
-  pub broke_is : (read same : List ℕ) (s : S) (a : WriterState) (s' : S) (b : WriterState) → read ≡ same → Broke Does (ended_lines read) s a s' b → Broke Does (ended_lines same) s a s' b
-  broke_is read same s a s' b e h = subst (λ (x : List ℕ). Broke Does (ended_lines x) s a s' b) e h
+  pub cut_is : (read same : List ℕ) (s : S) (a : WriterState) (s' : S) (b : WriterState) → read ≡ same → ScriptCut Does (ended_lines read) s a s' b → ScriptCut Does (ended_lines same) s a s' b
+  cut_is read same s a s' b e h = subst (λ (x : List ℕ). ScriptCut Does (ended_lines x) s a s' b) e h
 
   -- nothing is read yet
   pub stands_none : (s : S) (a : WriterState) (buffer : Option (List ℕ)) → buffer ≡ Some [] → Stands Does [] s a s a 0 buffer
-  unfolding Runs pieces_of
+  unfolding LinesRun ended_lines cut_at_lf
   stands_none s a buffer e = record {
-    did = record { answers = []; runs = (refl, refl); written = Writes-none a; counted = refl };
+    done = ([], (refl, refl), Writes-none a, refl);
     buffer_is = e ∙ sym kept_nil;
   }
 

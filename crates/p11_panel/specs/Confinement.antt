@@ -10,7 +10,7 @@ use Rattle.p11_cpu.specs.Confinement.{IsConfining, IsReached, after_devices, beg
 use Rattle.p11_cpu.specs.State.{State}
 use Rattle.p11_panel.specs.declared.command.Command.{Command}
 use Rattle.p11_panel.specs.declared.command.Command.TheVariants as commands
-use Rattle.p11_panel.specs.Commands.{Acts}
+use Rattle.p11_panel.specs.Commands.{CommandStep}
 use Rattle.p11_cpu.specs.Turns.{after_turns}
 
 -- in none of the next k turns does a service begin
@@ -54,10 +54,10 @@ ConfinesRun s (commands.Step n) answer s' = ConfinesStop s answer s'
 ConfinesRun s (commands.Continue n) answer s' = ConfinesStop s answer s'
 ConfinesRun s _ answer s' = Unit {0}
 
--- a list of commands is done, as Plays says, and each run in it is confined
-unfoldable pub PlaysConfined : {A : Type 0} → State → List (Command A) → List (Answer A) → State → Type 0
-PlaysConfined s [] [] s' = s' ≡ s
-PlaysConfined s [] (answer ∷ answers) s' = ⊥
-PlaysConfined s (command ∷ commands) [] s' = ⊥
-PlaysConfined s (command ∷ commands) (answer ∷ answers) s'' =
-    (s' : State) × Acts s command answer s' × ConfinesRun s command answer s' × PlaysConfined s' commands answers s''
+-- a list of commands is done, as CommandsRun says, and each run in it is confined
+unfoldable pub CommandsConfined : {A : Type 0} → State → List (Command A) → List (Answer A) → State → Type 0
+CommandsConfined s [] [] s' = s' ≡ s
+CommandsConfined s (command ∷ commands) (answer ∷ answers) s'' =
+    (s' : State) × CommandStep s command answer s' × ConfinesRun s command answer s'
+    × CommandsConfined s' commands answers s''
+CommandsConfined s _ _ s' = ⊥

@@ -1,42 +1,43 @@
 -- A run of turns, as the operator makes it.
-use Rattle.std.specs.Prelude.{◌≡◌, ℕ, zero, suc, ◌<◌, Bool, true, false, ◌&&◌, Option, None, Some, MatchOption, ◌==◌, if◌then◌else◌}
+use Rattle.std.specs.Prelude.{ℕ, ◌+◌, ◌^◌, Bool, ◌&&◌, ◌||◌, nat_lt, ◌==◌, find, Option, None, Some, if◌then◌else◌}
+use Rattle.std.specs.List.{range_with_len}
+use Rattle.std.specs.Option.{option_map_or}
+use Rattle.p11_lines.specs.declared.fault.Fault.{Fault}
+use Rattle.p11_lines.specs.declared.fault.Fault.TheVariants.{TooMany}
+use Rattle.p11_lines.specs.declared.answer.Answer.{Answer}
+use Rattle.p11_lines.specs.declared.answer.Answer.TheVariants.{Stop}
 use Rattle.p11_lines.specs.declared.answer.StopReason.{StopReason}
-use Rattle.p11_lines.specs.declared.answer.StopReason.TheVariants as reasons
-use Rattle.p11_cpu.specs.declared.turn.Turn.{Turn}
-use Rattle.p11_cpu.specs.declared.turn.Turn.TheVariants.{Ran, Halted}
+use Rattle.p11_lines.specs.declared.answer.StopReason.TheVariants.{Halt, Turns, Idle}
 use Rattle.p11_cpu.specs.State.{State}
-use Rattle.p11_cpu.specs.Prepared.{needs_memory}
-use Rattle.p11_cpu.specs.OperatorDevices.{is_idle}
-use Rattle.p11_cpu.specs.Turns.{after_turns, turn_of}
+use Rattle.p11_cpu.specs.OperatorDevices.{is_idle, take_typed_of}
+use Rattle.p11_cpu.specs.Turns.{after_turns}
 
-abbrev pub is_halt : Turn → Bool
-is_halt Halted = true
-is_halt Ran = false
+-- STEP and CONTINUE: 1 to 100,000,000 turns, after which the count of turns is 2^62 at most
+unfoldable pub step_fault : ℕ → State → Option Fault
+step_fault n s = if n == 0 || nat_lt 100000000 n || nat_lt (2 ^ 62) (s.turns + n) then Some TooMany else None
 
 -- whether the last of so many turns halted
 unfoldable pub last_halted : ℕ → State → Bool
-last_halted zero s = false
-last_halted (suc k) s = is_halt (turn_of (after_turns k s)).1
+last_halted k s = nat_lt 0 k && (after_turns k s).processor.halted
 
--- Why a run of n turns from s stops when k are made, if it does. The first that holds: the last of them halted; n are
--- made; the machine idles, for a run that asks so.
-unfoldable pub stop_of : (State → Bool) → ℕ → ℕ → State → Option StopReason
-stop_of idles n k s =
-    if last_halted k s then Some reasons.Halt
-    else (if k == n then Some reasons.Turns
-    else (if idles (after_turns k s) then Some reasons.Idle else None))
+-- whether so many turns end a run before all are made: the last of them halted, or the machine idles, if that is asked
+unfoldable pub ends_after : Bool → State → ℕ → Bool
+ends_after until_idle s k = last_halted k s || (until_idle && is_idle (after_turns k s))
 
--- where a run stops for idling, if it is asked to
-abbrev pub stops_idling : Bool → State → Bool
-stops_idling asked s = asked && is_idle s
+-- how many turns a run of n makes: the first number that ends it, or n
+unfoldable pub turns_made : Bool → ℕ → State → ℕ
+turns_made until_idle n s = option_map_or (λ k. k) (find (ends_after until_idle s) (range_with_len 0 n)) n
 
--- the next turn wants memory, which was refused
-abbrev pub IsMemory : StopReason → State → Type 0
-IsMemory reason s = (reason ≡ reasons.Memory) × (needs_memory s ≡ true)
+-- why a run of n turns stops after k of them
+unfoldable pub reason_of : ℕ → ℕ → State → StopReason
+reason_of n k s = if last_halted k s then Halt else (if k == n then Turns else Idle)
 
--- A run of n turns from s makes k of them and comes to s'. The reason is the first that holds for k turns, and where
--- none does it is want of memory. For no fewer turns any held.
-pub record IsRun (idles : State → Bool) (n : ℕ) (s : State) (k : ℕ) (reason : StopReason) (s' : State) : Type 0 where
-  pub state : s' ≡ after_turns k s
-  pub stops : MatchOption (stop_of idles n k s) (IsMemory reason s') (λ first. reason ≡ first)
-  pub goes_on : (j : ℕ) → j < k → stop_of idles n j s ≡ None
+-- where a run stops, it takes the characters that were typed in it, and answers them, the reason, its turns and PC
+abbrev pub stopped : {A : Type 0} → StopReason → ℕ → State → State × Answer A
+stopped reason k last = (take_typed_of last, Stop last.bus.typed reason k last.processor.registers.pc)
+
+-- a run of n turns that finds memory for each
+unfoldable pub whole_run : {A : Type 0} → Bool → ℕ → State → State × Answer A
+whole_run until_idle n s =
+    let k = turns_made until_idle n s in
+    stopped (reason_of n k s) k (after_turns k s)

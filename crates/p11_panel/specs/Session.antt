@@ -21,7 +21,7 @@ use Rattle.p11_store.specs.declared.store.StoreError.{StoreError}
 use Rattle.p11_store.specs.declared.store.StoreError.TheVariants as errors
 use Rattle.p11_panel.specs.declared.command.Command.{Command}
 use Rattle.p11_panel.specs.declared.command.Command.TheVariants as commands
-use Rattle.p11_panel.specs.Commands.{Acts}
+use Rattle.p11_panel.specs.Commands.{CommandStep}
 
 -- what a session goes on over: a machine, and a store of files
 pub record SessionState : Type 0 where
@@ -42,7 +42,7 @@ has_answer line = nat_lt 4096 (length line) || not (is_silent line)
 
 -- a command leaves the store
 abbrev pub IsCommand : {A : Type 0} → Command A → SessionState → Answer A → SessionState → Type 0
-IsCommand command s answer s' = Acts s.machine command answer s'.machine × (s'.store ≡ s.store)
+IsCommand command s answer s' = CommandStep s.machine command answer s'.machine × (s'.store ≡ s.store)
 
 -- what a fetch is answered that gives no bytes
 abbrev pub fault_of : StoreError → Fault
@@ -52,29 +52,24 @@ fault_of errors.NoMemory = NoMemory
 -- a command on the bytes under a name, which are fetched before all else
 abbrev pub OnFile : {A : Type 0} → List ℕ → (List ℕ → Command A) → SessionState → Answer A → SessionState → Type 0
 OnFile name command s answer s' =
-    ((bytes : List ℕ) × Fetches s.store name bytes s'.store × Acts s.machine (command bytes) answer s'.machine)
+    ((bytes : List ℕ) × Fetches s.store name bytes s'.store × CommandStep s.machine (command bytes) answer s'.machine)
     ⊎ ((error : StoreError) × FailsToFetch s.store name error s'.store
     × (answer ≡ answers.Refused (fault_of error)) × (s'.machine ≡ s.machine))
 
--- what SAVE shows is put under a name
-abbrev pub Keeps : {A : Type 0} → List ℕ → List ℕ → StoreState → Answer A → StoreState → Type 0
-Keeps name image s answer s' =
+-- what is done with the answer of SAVE: an image is put under a name; where it is refused, nothing is
+abbrev pub Keeps : {A : Type 0} → List ℕ → Answer A → StoreState → Answer A → StoreState → Type 0
+Keeps name (answers.Image image) s answer s' =
     (Puts s name image s' × (answer ≡ answers.Done)) ⊎ (FailsToPut s name s' × (answer ≡ answers.Refused StoreFault))
-
--- SAVE under a name; where it is refused, nothing is put
-abbrev pub SavesFile : {A : Type 0} → ℕ → List ℕ → SessionState → Answer A → SessionState → Type 0
-SavesFile {A} drive name s answer s' = (s'.machine ≡ s.machine) × (
-    ((image : List ℕ) × Acts {A = A} s.machine (commands.Save drive) (answers.Image image) s.machine
-    × Keeps name image s.store answer s'.store)
-    ⊎ ((fault : Fault) × Acts {A = A} s.machine (commands.Save drive) (answers.Refused fault) s.machine
-    × (answer ≡ answers.Refused fault) × (s'.store ≡ s.store)))
+Keeps name refusal s answer s' = (answer ≡ refusal) × (s' ≡ s)
 
 -- what a line does that the grammar has
 unfoldable pub Obeys : {A : Type 0} → Line A → SessionState → Answer A → SessionState → Type 0
 Obeys (lines.Mount drive name protect) s answer s' =
     OnFile name (λ image. commands.Mount drive image protect) s answer s'
 Obeys (lines.Unmount drive) s answer s' = IsCommand (commands.Unmount drive) s answer s'
-Obeys (lines.Save drive name) s answer s' = SavesFile drive name s answer s'
+Obeys {A} (lines.Save drive name) s answer s' =
+    (shown : Answer A) × CommandStep s.machine (commands.Save drive) shown s'.machine
+    × Keeps name shown s.store answer s'.store
 Obeys (lines.Changed drive) s answer s' = IsCommand (commands.Changed drive) s answer s'
 Obeys (lines.Load name) s answer s' = OnFile name (λ tape. commands.Load tape) s answer s'
 Obeys (lines.Examine address count) s answer s' = IsCommand (commands.Examine address count) s answer s'
@@ -110,32 +105,22 @@ texts_of answers = flat_map text_of answers
 -- has one, and the next state.
 module _ {S A : Type 0} (Does : List ℕ → S → Option (Answer A) → S → Type 0) where
   -- lines, with all their answers
-  unfoldable pub Runs : List (List ℕ) → S → List (Answer A) → S → Type 0
-  Runs [] s answers s' = (answers ≡ []) × (s' ≡ s)
-  Runs (line ∷ lines) s answers s'' =
+  unfoldable pub LinesRun : List (List ℕ) → S → List (Answer A) → S → Type 0
+  LinesRun [] s answers s' = (answers ≡ []) × (s' ≡ s)
+  LinesRun (line ∷ lines) s answers s'' =
       (answer : Option (Answer A)) × (s' : S) × (others : List (Answer A))
-      × Does line s answer s' × Runs lines s' others s'' × (answers ≡ option_to_list answer ++ others)
+      × Does line s answer s' × LinesRun lines s' others s'' × (answers ≡ option_to_list answer ++ others)
 
   -- These lines are done: from s to s', with so many answers; and their text is written: no write fails.
-  pub record Did (lines : List (List ℕ)) (s : S) (old : WriterState) (s' : S) (new : WriterState) (count : ℕ)
-      : Type 0 where
-    pub answers : List (Answer A)
-    pub runs : Runs lines s answers s'
-    pub written : Writes old new (texts_of answers) []
-    pub counted : count ≡ length answers
+  abbrev pub ScriptDone : List (List ℕ) → S → WriterState → S → WriterState → ℕ → Type 0
+  ScriptDone lines s old s' new count =
+      (answers : List (Answer A)) × LinesRun lines s answers s'
+      × Writes old new (texts_of answers) [] × (count ≡ length answers)
 
   -- Of these lines just those up to one are done, itself included. All earlier texts are written whole, and of its own
   -- text a front that isn't all of it, since the last write failed or took nothing.
-  pub record Broke (lines : List (List ℕ)) (s : S) (old : WriterState) (s' : S) (new : WriterState) : Type 0 where
-    pub earlier : List (List ℕ)
-    pub line : List ℕ
-    pub others : List (List ℕ)
-    pub split : lines ≡ earlier ++ line ∷ others
-    pub answers : List (Answer A)
-    pub before : S
-    pub runs : Runs earlier s answers before
-    pub answer : Answer A
-    pub does : Does line before (Some answer) s'
-    pub between : WriterState
-    pub whole : Writes old between (texts_of answers) []
-    pub part : AppendsFront between new (text_of answer)
+  abbrev pub ScriptCut : List (List ℕ) → S → WriterState → S → WriterState → Type 0
+  ScriptCut lines s old s' new =
+      (earlier : List (List ℕ)) × (line : List ℕ) × (others : List (List ℕ)) × (lines ≡ earlier ++ line ∷ others)
+      × (before : S) × (between : WriterState) × (count : ℕ) × ScriptDone earlier s old before between count
+      × (answer : Answer A) × Does line before (Some answer) s' × AppendsFront between new (text_of answer)

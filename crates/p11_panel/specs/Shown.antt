@@ -28,7 +28,4 @@ registers_of s =
 -- DEVICE: the devices on the bus, and memory management
 unfoldable pub shown_devices : State → Devices
 shown_devices s =
-    record {
-      bus = machine_devices_of s;
-      management = record { status_0 = status_0_of s; status_2 = status_2_of s };
-    }
+    record { bus = machine_devices_of s; management = record { status_0 = status_0_of s; status_2 = status_2_of s } }

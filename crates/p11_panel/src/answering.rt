@@ -1,9 +1,10 @@
 //! Does one line of the console's language: finds its file in the store, does its command, and gives the answer.
 ghost use Rattle.std.specs.Prelude.{◌≡◌};
 ghost use Rattle.p11_lines.specs.Grammar.{line_from};
-ghost use Rattle.p11_panel.specs.Commands.{Acts};
+ghost use Rattle.p11_panel.specs.Commands.{CommandStep};
 ghost use Rattle.p11_panel.specs.Session.{is_silent, has_answer, with_store, LineDoes};
-ghost use Rattle.p11_panel.specs.Session.{Asks, Obeys, OnFile, SavesFile, Keeps};
+ghost use Rattle.p11_panel.specs.Session.{Asks, Obeys, OnFile, Keeps};
+ghost use Rattle.p11_lines.specs.declared.answer.Answer.{Answer};
 
 use crate::command::Command;
 use crate::panel::Panel;
@@ -28,7 +29,7 @@ fn silent(line: &[u8]) -> bool
 
 /// Does one command, which ends with it.
 fn done<A: Allocator + Copy>(alloc: A, panel: &mut Panel<A>, command: Command<A>) -> Answer<A>
-    ensures { Acts panel.old command result panel.new }
+    ensures { CommandStep panel.old command result panel.new }
 {
     panel.act(alloc, &command)
 }
@@ -85,7 +86,7 @@ fn load_file<A: Allocator + Copy, S: Store>(
 
 /// Puts what a pack holds under a name.
 fn keep<A: Allocator, S: Store>(store: &mut S, name: &[u8], image: &[u8]) -> Answer<A>
-    ensures { Keeps name.now image.now (S.state store.old) result (S.state store.new) }
+    ensures { Keeps name.now (Answer.Image image.now) (S.state store.old) result (S.state store.new) }
 {
     match store.put(name, image) {
         Ok(()) => Answer::Done,
@@ -101,8 +102,8 @@ fn save_file<A: Allocator + Copy, S: Store>(
     drive: u32,
     name: &[u8],
 ) -> Answer<A>
-    ensures { SavesFile drive name.now (with_store panel.now (S.state store.old)) result
-        (with_store panel.now (S.state store.new)) }
+    ensures { (shown : Answer A) × CommandStep panel.now (Command.Save drive) shown panel.now
+        × Keeps name.now shown (S.state store.old) result (S.state store.new) }
 {
     match panel.image(alloc, drive) {
         Ok(image) => keep(store, name, image.as_slice()),

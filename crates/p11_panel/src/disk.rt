@@ -2,8 +2,8 @@
 ghost use Rattle.std.specs.Prelude.{◌≡◌, ◌<◌, ◌≤◌, false, length, is_some, IfOk, IfErr, IfNone};
 ghost use Rattle.p11_overlay.specs.Geometry.{image_bytes};
 ghost use Rattle.p11_rk11.specs.State.{drive_count, drive_of};
-ghost use Rattle.p11_panel.specs.Commands.{Acts};
-ghost use Rattle.p11_panel.specs.Disks.{mount_fault, Mounts, Unmounts, Saves, ShowsChanged};
+ghost use Rattle.p11_panel.specs.Commands.{CommandStep};
+ghost use Rattle.p11_panel.specs.Disks.{mount_fault};
 
 use crate::command::Command;
 use crate::panel::Panel;
@@ -37,7 +37,7 @@ impl<A: Allocator + Copy> Panel<A> {
 
     /// Does MOUNT: puts a pack that holds these bytes, and zeros behind them, on a drive (0 to 7); or says why not.
     pub(crate) fn mount(&mut self, alloc: A, drive: u32, image: &[u8], protect: bool) -> Answer<A>
-        ensures { Mounts drive image.now protect self.old result self.new }
+        ensures { CommandStep self.old (Command.Mount drive image.now protect) result self.new }
     {
         if let Some(fault) = self.mount_refusal(drive, image) {
             return Answer::Refused(fault);
@@ -50,7 +50,7 @@ impl<A: Allocator + Copy> Panel<A> {
 
     /// Does UNMOUNT: takes the pack out of a drive that isn't busy; or says why not.
     pub(crate) fn unmount(&mut self, drive: u32) -> Answer<A>
-        ensures { Unmounts drive self.old result self.new }
+        ensures { CommandStep self.old (Command.Unmount drive) result self.new }
     {
         if drive as usize >= DRIVES {
             return Answer::Refused(Fault::NoDrive);
@@ -67,8 +67,8 @@ impl<A: Allocator + Copy> Panel<A> {
 
     /// All that the pack on a drive holds, or why SAVE is refused.
     pub(crate) fn image(&self, alloc: A, drive: u32) -> Result<Bytes<A>, Fault>
-        ensures ok { IfOk result (λ image. Saves {A = A} drive self.now (Answer.Image image) self.now) }
-        ensures err { IfErr result (λ fault. Saves {A = A} drive self.now (Answer.Refused fault) self.now) }
+        ensures ok { IfOk result (λ image. CommandStep {A = A} self.now (Command.Save drive) (Answer.Image image) self.now) }
+        ensures err { IfErr result (λ fault. CommandStep {A = A} self.now (Command.Save drive) (Answer.Refused fault) self.now) }
     {
         if drive as usize >= DRIVES {
             return Err(Fault::NoDrive);
@@ -84,7 +84,7 @@ impl<A: Allocator + Copy> Panel<A> {
 
     /// Does SAVE: answers all bytes of the pack on a drive; or says why not, for want of memory too.
     pub(crate) fn save(&self, alloc: A, drive: u32) -> Answer<A>
-        ensures { Saves drive self.now result self.now }
+        ensures { CommandStep self.now (Command.Save drive) result self.now }
     {
         match self.image(alloc, drive) {
             Ok(image) => Answer::Image(image),
@@ -94,7 +94,7 @@ impl<A: Allocator + Copy> Panel<A> {
 
     /// Does CHANGED: answers the numbers of the sectors written since the pack was mounted; or says why not.
     pub(crate) fn changed(&self, alloc: A, drive: u32) -> Answer<A>
-        ensures { ShowsChanged drive self.now result self.now }
+        ensures { CommandStep self.now (Command.Changed drive) result self.now }
     {
         if drive as usize >= DRIVES {
             return Answer::Refused(Fault::NoDrive);

@@ -1,8 +1,10 @@
 // LOAD.
-ghost use Rattle.std.specs.Prelude.{◌≡◌, ℕ, true};
+ghost use Rattle.std.specs.Prelude.{◌≡◌, ℕ, true, Ok};
 ghost use Rattle.p11_cpu.specs.Operator.{holds_byte_of, put_byte_of};
-ghost use Rattle.p11_panel.specs.Tapes.{all_fit, loaded, Places, Loads};
+ghost use Rattle.p11_panel.specs.Commands.{CommandStep};
+ghost use Rattle.p11_panel.specs.Tapes.{all_fit, loaded, tape_loaded};
 
+use crate::command::Command;
 use crate::panel::Panel;
 use p11_lines::{Answer, Fault};
 use p11_tape::{TapeFaultKind, read_tape};
@@ -51,7 +53,7 @@ impl<A: Allocator + Copy> Panel<A> {
 
     /// Writes the bytes of a tape to memory.
     fn place(&mut self, placed: &[(u16, u8)], start: Option<u16>) -> Answer<A>
-        ensures { Places placed.now start self.old result self.new }
+        ensures { tape_loaded (Ok (record { placed = placed.now; start = start })) self.old ≡ (self.new, result) }
     {
         if !self.all_fit(placed) {
             return Answer::Refused(Fault::NoAnswer);
@@ -65,7 +67,7 @@ impl<A: Allocator + Copy> Panel<A> {
 
     /// Does LOAD: writes the data of a tape in the absolute binary format to memory, all or none; or says why not.
     pub(crate) fn load(&mut self, alloc: A, tape: &[u8]) -> Answer<A>
-        ensures { Loads tape.now self.old result self.new }
+        ensures { CommandStep self.old (Command.Load tape.now) result self.new }
     {
         match read_tape(alloc, tape) {
             Ok(tape) => self.place(tape.bytes.as_slice(), tape.start),

@@ -1,14 +1,15 @@
 //! The machine under an operator: one command done and answered.
-ghost use Rattle.std.specs.Prelude.{◌≡◌, ◌<◌, ◌≤◌, ◌+◌, ◌^◌, true, IfOk};
+ghost use Rattle.std.specs.Prelude.{◌≡◌, ◌<◌, ◌≤◌, ◌+◌, ◌^◌, true, None, IfOk};
 ghost use Rattle.p11_cpu.specs.Operator.{new_machine};
-ghost use Rattle.p11_panel.specs.Commands.{Acts, Examines, Stops};
+ghost use Rattle.p11_panel.specs.Calls.Runs.{run_command};
+ghost use Rattle.p11_panel.specs.Commands.{CommandStep};
 ghost use Rattle.p11_panel.specs.Confinement.{ConfinesRun, ConfinesStop};
-ghost use Rattle.p11_panel.specs.Ranges.{all_answer};
+ghost use Rattle.p11_panel.specs.Ranges.{all_answer, examine_fault};
+ghost use Rattle.p11_panel.specs.Runs.{step_fault};
 
 use crate::command::Command;
 use crate::config::Config;
 use crate::confined::a_user_run_is_confined;
-use crate::refusal::start_refusal;
 use crate::run::run;
 use p11_cpu::{ConsoleRegister, Machine};
 use p11_lines::{Answer, Bytes, Fault, NoMemory, Words};
@@ -53,7 +54,7 @@ impl<A: Allocator + Copy> Panel<A> {
     /// `Continue` of a user program that memory management keeps off the I/O page, in which no service begins, leaves
     /// all memory that it doesn't reach, but for what disk reads store.
     pub fn act(&mut self, alloc: A, command: &Command<A>) -> Answer<A>
-        ensures acts { Acts self.old command.now result self.new }
+        ensures acts { CommandStep self.old command.now result self.new }
         ensures confined { ConfinesRun self.old command.now result self.new }
     {
         match command {
@@ -84,7 +85,7 @@ impl<A: Allocator + Copy> Panel<A> {
 
     /// Does EXAMINE: answers so many words from an even bus address on; or says why not.
     fn examine(&mut self, alloc: A, address: u32, count: u32) -> Answer<A>
-        ensures { Acts self.old (Command.Examine address count) result self.new }
+        ensures { CommandStep self.old (Command.Examine address count) result self.new }
     {
         if let Some(fault) = self.examine_refusal(address, count) {
             return Answer::Refused(fault);
@@ -93,11 +94,12 @@ impl<A: Allocator + Copy> Panel<A> {
     }
 
     /// Reads so many words from an even address on, and answers what they show.
-    #[tactic(auto, using(crate::proofs::RangeLemmas::first_answers), unfolding(crate::specs::Commands::examined))]
+    #[tactic(auto, using(crate::proofs::RangeLemmas::first_answers))]
     fn show(&mut self, alloc: A, address: u32, count: u32) -> Answer<A>
+        requires fault { examine_fault address count self.old ≡ None }
         requires some { 0 < count }
         requires answer { all_answer address count self.old ≡ true }
-        ensures { Examines address count self.old result self.new }
+        ensures { CommandStep self.old (Command.Examine address count) result self.new }
     {
         if count == 1 {
             let word = self.machine.examine(address);
@@ -114,7 +116,7 @@ impl<A: Allocator + Copy> Panel<A> {
 
     /// Does DEPOSIT: writes words from an even bus address on, all or none; or says why not.
     fn deposit(&mut self, address: u32, words: &[u16]) -> Answer<A>
-        ensures { Acts self.old (Command.Deposit address words.now) result self.new }
+        ensures { CommandStep self.old (Command.Deposit address words.now) result self.new }
     {
         if let Some(fault) = self.deposit_refusal(address, words) {
             return Answer::Refused(fault);
@@ -125,10 +127,10 @@ impl<A: Allocator + Copy> Panel<A> {
 
     /// Does START: resets the bus and sets PC to an even address; or says why not.
     fn start(&mut self, address: u16) -> Answer<A>
-        ensures { Acts self.old (Command.Start address) result self.new }
+        ensures { CommandStep self.old (Command.Start address) result self.new }
     {
-        if let Some(fault) = start_refusal(address) {
-            return Answer::Refused(fault);
+        if address % 2 == 1 {
+            return Answer::Refused(Fault::OddAddress);
         }
         self.machine.start(address);
         Answer::Done
@@ -136,10 +138,10 @@ impl<A: Allocator + Copy> Panel<A> {
 
     /// Does KEY: presses the keys that give these bytes, all or none; or says why not.
     fn key(&mut self, text: &[u8]) -> Answer<A>
-        ensures { Acts self.old (Command.Key text.now) result self.new }
+        ensures { CommandStep self.old (Command.Key text.now) result self.new }
     {
-        if let Some(fault) = self.key_refusal(text) {
-            return Answer::Refused(fault);
+        if text.len() > self.machine.room() as usize {
+            return Answer::Refused(Fault::KeysFull);
         }
         self.press_all(text);
         Answer::Done
@@ -147,7 +149,7 @@ impl<A: Allocator + Copy> Panel<A> {
 
     /// Does TICK: lets the line clock tick.
     fn tick(&mut self) -> Answer<A>
-        ensures { Acts self.old Command.Tick result self.new }
+        ensures { CommandStep self.old Command.Tick result self.new }
     {
         self.machine.tick();
         Answer::Done
@@ -155,7 +157,7 @@ impl<A: Allocator + Copy> Panel<A> {
 
     /// Does CLOCK: lets the line clock tick by itself every so many turns, or with 0 no more.
     fn clock(&mut self, period: u32) -> Answer<A>
-        ensures { Acts self.old (Command.Clock period) result self.new }
+        ensures { CommandStep self.old (Command.Clock period) result self.new }
     {
         self.machine.set_period(period);
         Answer::Done
@@ -163,7 +165,7 @@ impl<A: Allocator + Copy> Panel<A> {
 
     /// Does SWITCHES: sets the switch register.
     fn switches(&mut self, word: u16) -> Answer<A>
-        ensures { Acts self.old (Command.Switches word) result self.new }
+        ensures { CommandStep self.old (Command.Switches word) result self.new }
     {
         self.machine.set_switches(word);
         Answer::Done
@@ -171,7 +173,7 @@ impl<A: Allocator + Copy> Panel<A> {
 
     /// Does FLUSH: drops all that is kept to find answers sooner.
     fn flush(&mut self) -> Answer<A>
-        ensures { Acts self.old Command.Flush result self.new }
+        ensures { CommandStep self.old Command.Flush result self.new }
     {
         self.machine.flush();
         Answer::Done
@@ -179,7 +181,7 @@ impl<A: Allocator + Copy> Panel<A> {
 
     /// Does SET: sets the register of an octal number, 0 to 11; or says why not.
     fn set(&mut self, register: u16, value: u16) -> Answer<A>
-        ensures { Acts self.old (Command.Set register value) result self.new }
+        ensures { CommandStep self.old (Command.Set register value) result self.new }
     {
         let Some(register) = ConsoleRegister::numbered(register) else {
             return Answer::Refused(Fault::BadRegister);
@@ -190,7 +192,7 @@ impl<A: Allocator + Copy> Panel<A> {
 
     /// Does STEP: makes so many turns, fewer where it halts or memory is refused; or says why not.
     fn step(&mut self, turns: u32) -> Answer<A>
-        ensures acts { Acts self.old (Command.Step turns) result self.new }
+        ensures acts { CommandStep self.old (Command.Step turns) result self.new }
         ensures confined { ConfinesRun self.old (Command.Step turns) result self.new }
     {
         if let Some(fault) = self.step_refusal(turns) {
@@ -201,7 +203,7 @@ impl<A: Allocator + Copy> Panel<A> {
 
     /// Does CONTINUE: makes turns as STEP does, and stops where the machine idles.
     fn continue_run(&mut self, turns: u32) -> Answer<A>
-        ensures acts { Acts self.old (Command.Continue turns) result self.new }
+        ensures acts { CommandStep self.old (Command.Continue turns) result self.new }
         ensures confined { ConfinesRun self.old (Command.Continue turns) result self.new }
     {
         if let Some(fault) = self.step_refusal(turns) {
@@ -212,8 +214,9 @@ impl<A: Allocator + Copy> Panel<A> {
 
     /// Makes a run, and takes what was typed in it.
     fn make_run(&mut self, turns: u32, until_idle: bool) -> Answer<A>
-        requires { self.old.turns + turns ≤ 2 ^ 62 }
-        ensures stops { Stops until_idle turns self.old result self.new }
+        requires fault { step_fault turns self.old ≡ None }
+        requires within { self.old.turns + turns ≤ 2 ^ 62 }
+        ensures acts { CommandStep self.old (run_command until_idle turns) result self.new }
         ensures confined { ConfinesStop self.old result self.new }
     {
         self.machine.state_is_well_formed();

@@ -1,8 +1,8 @@
 //! The headline's call: a list of commands on a new machine.
 ghost use Rattle.std.specs.Prelude.{◌≡◌, IfOk};
 ghost use Rattle.p11_cpu.specs.Operator.{new_machine};
-ghost use Rattle.p11_panel.specs.Confinement.{PlaysConfined};
-ghost use Rattle.p11_panel.specs.Play.{Plays};
+ghost use Rattle.p11_panel.specs.Confinement.{CommandsConfined};
+ghost use Rattle.p11_panel.specs.Play.{CommandsRun};
 
 use crate::command::Command;
 use crate::config::Config;
@@ -19,8 +19,8 @@ pub fn play<A: Allocator + Copy>(
     config: Config,
     commands: &[Command<A>],
 ) -> Result<(Panel<A>, Vec<Answer<A>, A>), NoMemory>
-    ensures plays { IfOk result (λ r. Plays (new_machine config.kwords) commands.now r.1.items r.0) }
-    ensures confined { IfOk result (λ r. PlaysConfined (new_machine config.kwords) commands.now r.1.items r.0) }
+    ensures plays { IfOk result (λ r. CommandsRun (new_machine config.kwords) commands.now r.1.items r.0) }
+    ensures confined { IfOk result (λ r. CommandsConfined (new_machine config.kwords) commands.now r.1.items r.0) }
 {
     let mut panel = Panel::new(alloc, config)?;
     let mut answers = Vec::new(alloc);

@@ -1,8 +1,8 @@
-//! Why EXAMINE, DEPOSIT, START, KEY, STEP and CONTINUE are refused, found before anything changes.
+//! Why EXAMINE, DEPOSIT, STEP and CONTINUE are refused, found before anything changes.
 ghost use Rattle.std.specs.Prelude.{◌≡◌, ◌≤◌, ◌+◌, ◌*◌, ◌<◌, ◌^◌, true, length, IfNone};
-ghost use Rattle.p11_panel.specs.Commands.{examine_fault, deposit_fault, start_fault, key_fault, step_fault};
-ghost use Rattle.p11_panel.specs.Commands.{touches_io_page};
-ghost use Rattle.p11_panel.specs.Ranges.{answers_at, all_answer};
+ghost use Rattle.p11_panel.specs.Ranges.{answers_at, all_answer, range_fault, touches_io_page};
+ghost use Rattle.p11_panel.specs.Ranges.{examine_fault, deposit_fault};
+ghost use Rattle.p11_panel.specs.Runs.{step_fault};
 
 use crate::panel::Panel;
 use p11_lines::Fault;
@@ -21,7 +21,7 @@ const LAST_ADDRESS: u64 = 0o777777;
 const IO_PAGE: u64 = 0o760000;
 
 /// Whether more than one word is written from an address on, and some of the range lies in the I/O page.
-#[tactic(auto, unfolding(crate::specs::Commands::touches_io_page))]
+#[tactic(auto, unfolding(crate::specs::Ranges::touches_io_page))]
 fn is_past_memory(address: u32, count: u32) -> bool
     ensures { result ≡ touches_io_page address count }
 {
@@ -32,17 +32,6 @@ fn is_past_memory(address: u32, count: u32) -> bool
         return false;
     }
     IO_PAGE <= u64::from(address) + 2 * (u64::from(count) - 1)
-}
-
-/// Why START at an address is refused, if it is.
-#[tactic(auto, unfolding(crate::specs::Commands::start_fault))]
-pub(crate) fn start_refusal(address: u16) -> Option<Fault>
-    ensures { result ≡ start_fault address }
-{
-    if address % 2 == 1 {
-        return Some(Fault::OddAddress);
-    }
-    None
 }
 
 impl<A: Allocator> Panel<A> {
@@ -71,19 +60,12 @@ impl<A: Allocator> Panel<A> {
         true
     }
 
-    /// Why EXAMINE is refused, if it is.
-    #[tactic(auto, unfolding(crate::specs::Commands::examine_fault))]
-    pub(crate) fn examine_refusal(&self, address: u32, count: u32) -> Option<Fault>
-        ensures fault { result ≡ examine_fault address count self.now }
-        ensures some { IfNone result (0 < count) }
+    /// Why words from an address on can't be referred to, if they can't: it is odd, or not all of them answer.
+    #[tactic(auto, unfolding(crate::specs::Ranges::range_fault))]
+    fn range_refusal(&self, address: u32, count: u32) -> Option<Fault>
+        ensures fault { result ≡ range_fault address count self.now }
         ensures answer { IfNone result (all_answer address count self.now ≡ true) }
     {
-        if count == 0 {
-            return Some(Fault::TooMany);
-        }
-        if count > MOST_EXAMINED {
-            return Some(Fault::TooMany);
-        }
         if address % 2 == 1 {
             return Some(Fault::OddAddress);
         }
@@ -93,53 +75,43 @@ impl<A: Allocator> Panel<A> {
         None
     }
 
+    /// Why EXAMINE is refused, if it is.
+    #[tactic(auto, unfolding(crate::specs::Ranges::examine_fault))]
+    pub(crate) fn examine_refusal(&self, address: u32, count: u32) -> Option<Fault>
+        ensures fault { result ≡ examine_fault address count self.now }
+        ensures some { IfNone result (0 < count) }
+        ensures answer { IfNone result (all_answer address count self.now ≡ true) }
+    {
+        if count == 0 || count > MOST_EXAMINED {
+            return Some(Fault::TooMany);
+        }
+        self.range_refusal(address, count)
+    }
+
     /// Why DEPOSIT is refused, if it is.
-    #[tactic(auto, unfolding(crate::specs::Commands::deposit_fault))]
+    #[tactic(auto, unfolding(crate::specs::Ranges::deposit_fault))]
     pub(crate) fn deposit_refusal(&self, address: u32, words: &[u16]) -> Option<Fault>
-        ensures fault { result ≡ deposit_fault address words.now self.now }
+        ensures fault { result ≡ deposit_fault address (length words.now) self.now }
         ensures few { IfNone result (length words.now ≤ 64) }
         ensures answer { IfNone result (all_answer address (length words.now) self.now ≡ true) }
     {
-        if words.len() == 0 {
-            return Some(Fault::TooMany);
-        }
-        if words.len() > MOST_DEPOSITED {
+        if words.len() == 0 || words.len() > MOST_DEPOSITED {
             return Some(Fault::TooMany);
         }
         let count = words.len() as u32;
         if is_past_memory(address, count) {
             return Some(Fault::TooMany);
         }
-        if address % 2 == 1 {
-            return Some(Fault::OddAddress);
-        }
-        if !self.all_answer(address, count) {
-            return Some(Fault::NoAnswer);
-        }
-        None
-    }
-
-    /// Why KEY is refused, if it is.
-    #[tactic(auto, unfolding(crate::specs::Commands::key_fault))]
-    pub(crate) fn key_refusal(&self, text: &[u8]) -> Option<Fault>
-        ensures { result ≡ key_fault text.now self.now }
-    {
-        if text.len() > self.machine.room() as usize {
-            return Some(Fault::KeysFull);
-        }
-        None
+        self.range_refusal(address, count)
     }
 
     /// Why STEP and CONTINUE are refused, if they are.
-    #[tactic(auto, unfolding(crate::specs::Commands::step_fault))]
+    #[tactic(auto, unfolding(crate::specs::Runs::step_fault))]
     pub(crate) fn step_refusal(&self, turns: u32) -> Option<Fault>
         ensures fault { result ≡ step_fault turns self.now }
         ensures within { IfNone result (self.now.turns + turns ≤ 2 ^ 62) }
     {
-        if turns == 0 {
-            return Some(Fault::TooMany);
-        }
-        if turns > MOST_TURNS {
+        if turns == 0 || turns > MOST_TURNS {
             return Some(Fault::TooMany);
         }
         if u64::from(turns) > LAST_TURN || self.machine.turns() > LAST_TURN - u64::from(turns) {

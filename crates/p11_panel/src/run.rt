@@ -1,6 +1,6 @@
 //! STEP and CONTINUE: turns up to a number, a halt, want of memory, or idling.
 ghost use Rattle.std.specs.Prelude.{◌≡◌, ◌≤◌, ◌+◌, ◌^◌};
-ghost use Rattle.p11_panel.specs.Runs.{IsRun, stops_idling};
+ghost use Rattle.p11_panel.specs.Calls.Runs.{IsRun, stops_idling};
 
 use p11_cpu::{Machine, Turn};
 use p11_lines::StopReason;

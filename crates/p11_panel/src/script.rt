@@ -6,7 +6,7 @@ ghost use Rattle.p11_lines.specs.Writers.{WriterState};
 ghost use Rattle.p11_panel.specs.Kept.Buffer.{kept};
 ghost use Rattle.p11_panel.specs.Script.{without_cr, ended_lines, script_lines};
 ghost use Rattle.p11_panel.specs.Readers.{Reads};
-ghost use Rattle.p11_panel.specs.Session.{SessionState, with_store, LineDoes, Did, Broke};
+ghost use Rattle.p11_panel.specs.Session.{SessionState, with_store, LineDoes, ScriptDone, ScriptCut};
 ghost use Rattle.p11_panel.specs.Kept.Standing.{Stands};
 
 use crate::answering::do_line;
@@ -105,7 +105,7 @@ fn feed_byte<A: Allocator + Copy, S: Store, W: Sink>(
     ensures err { OnErr result ((read : List ℕ) (s : SessionState) (start : WriterState) (count : ℕ)
         → Stands (LineDoes {A = A}) read s start (with_store panel.old (S.state store.old))
         (W.state writer.old) count buffer.old
-        → Broke (LineDoes {A = A}) (ended_lines (read ++ byte ∷ [])) s start (with_store panel.new (S.state store.new))
+        → ScriptCut (LineDoes {A = A}) (ended_lines (read ++ byte ∷ [])) s start (with_store panel.new (S.state store.new))
         (W.state writer.new)) }
     ensures one { IfOk result (λ n. n ≤ 1) }
 {
@@ -140,7 +140,7 @@ fn feed<A: Allocator + Copy, S: Store, W: Sink>(
     ensures err { OnErr result ((read : List ℕ) (s : SessionState) (start : WriterState) (count : ℕ)
         → Stands (LineDoes {A = A}) read s start (with_store panel.old (S.state store.old))
         (W.state writer.old) count buffer.old
-        → Broke (LineDoes {A = A}) (ended_lines (read ++ bytes.now)) s start (with_store panel.new (S.state store.new))
+        → ScriptCut (LineDoes {A = A}) (ended_lines (read ++ bytes.now)) s start (with_store panel.new (S.state store.new))
         (W.state writer.new)) }
     ensures few { IfOk result (λ n. n ≤ length bytes.now) }
 {
@@ -162,12 +162,12 @@ fn finish<A: Allocator + Copy, S: Store, W: Sink>(
     ensures ok { IfOk result (λ n. (read : List ℕ) (s : SessionState) (start : WriterState) (count : ℕ)
         → Stands (LineDoes {A = A}) read s start (with_store panel.old (S.state store.old))
         (W.state writer.old) count buffer.now
-        → Did (LineDoes {A = A}) (script_lines read) s start (with_store panel.new (S.state store.new))
+        → ScriptDone (LineDoes {A = A}) (script_lines read) s start (with_store panel.new (S.state store.new))
         (W.state writer.new) (count + n)) }
     ensures err { OnErr result ((read : List ℕ) (s : SessionState) (start : WriterState) (count : ℕ)
         → Stands (LineDoes {A = A}) read s start (with_store panel.old (S.state store.old))
         (W.state writer.old) count buffer.now
-        → Broke (LineDoes {A = A}) (script_lines read) s start (with_store panel.new (S.state store.new))
+        → ScriptCut (LineDoes {A = A}) (script_lines read) s start (with_store panel.new (S.state store.new))
         (W.state writer.new)) }
     ensures one { IfOk result (λ n. n ≤ 1) }
 {
@@ -203,31 +203,31 @@ pub fn session<A: Allocator + Copy, S: Store, R: Source, W: Sink>(
     ensures ok { IfOk result (λ m. (read : List ℕ) × (n : ℕ)
         × Reads (R.state reader.old) (R.state reader.new) read n (true ∷ []) × (n ≤ 999999)
         × IsAtEnd (R.state reader.new).left
-        × Did (LineDoes {A = A}) (script_lines read)
+        × ScriptDone (LineDoes {A = A}) (script_lines read)
         (with_store panel.old (S.state store.old)) (W.state writer.old) (with_store panel.new (S.state store.new))
         (W.state writer.new) m) }
     // The last read failed, and no other. The lines that LF ended in what was read are done, and their text is written.
     ensures reading { IsErrOf result SessionFault.Reading → (read : List ℕ) × (m : ℕ) × (n : ℕ)
         × Reads (R.state reader.old) (R.state reader.new) read n (false ∷ []) × (n ≤ 999999)
-        × Did (LineDoes {A = A}) (ended_lines read)
+        × ScriptDone (LineDoes {A = A}) (ended_lines read)
         (with_store panel.old (S.state store.old)) (W.state writer.old) (with_store panel.new (S.state store.new))
         (W.state writer.new) m }
     // The same, of just 1,000,000 reads, none of which failed.
     ensures long { IsErrOf result SessionFault.TooLong → (read : List ℕ) × (m : ℕ) × (n : ℕ)
         × Reads (R.state reader.old) (R.state reader.new) read n [] × (n ≡ 1000000)
-        × Did (LineDoes {A = A}) (ended_lines read)
+        × ScriptDone (LineDoes {A = A}) (ended_lines read)
         (with_store panel.old (S.state store.old)) (W.state writer.old) (with_store panel.new (S.state store.new))
         (W.state writer.new) m }
     // No read failed. Just the lines up to one are done, which LF ended, or which is the last of a script that was read
     // to its end.
     ensures broke { IsErrOf result SessionFault.Writing → (read : List ℕ) × (n : ℕ)
         × ((Reads (R.state reader.old) (R.state reader.new) read n [] × (n ≤ 1000000)
-        × Broke (LineDoes {A = A}) (ended_lines read)
+        × ScriptCut (LineDoes {A = A}) (ended_lines read)
         (with_store panel.old (S.state store.old)) (W.state writer.old) (with_store panel.new (S.state store.new))
         (W.state writer.new))
         ⊎ (Reads (R.state reader.old) (R.state reader.new) read n (true ∷ []) × (n ≤ 999999)
         × IsAtEnd (R.state reader.new).left
-        × Broke (LineDoes {A = A}) (script_lines read)
+        × ScriptCut (LineDoes {A = A}) (script_lines read)
         (with_store panel.old (S.state store.old)) (W.state writer.old) (with_store panel.new (S.state store.new))
         (W.state writer.new))) }
 {

@@ -30,19 +30,10 @@ asked name is_refused s = record s { calls = with_call false name is_refused s.c
 abbrev pub refused : StoreState → StoreState
 refused s = record s { refusals = s.refusals + 1 }
 
--- where its files are known, the name has these bytes
-abbrev pub Has : Option (List ℕ → Option (List ℕ)) → List ℕ → List ℕ → Type 0
-Has None name bytes = ⊤
-Has (Some files) name bytes = files name ≡ Some bytes
-
--- where its files are known, there is none under the name
-abbrev pub Lacks : Option (List ℕ → Option (List ℕ)) → List ℕ → Type 0
-Lacks None name = ⊤
-Lacks (Some files) name = files name ≡ None
-
--- where its files are known, there is one under the name
-abbrev pub Holds : Option (List ℕ → Option (List ℕ)) → List ℕ → Type 0
-Holds files name = (bytes : List ℕ) × Has files name bytes
+-- where its files are known, this is what it has under the name: bytes, or nothing
+abbrev pub Has : Option (List ℕ → Option (List ℕ)) → List ℕ → Option (List ℕ) → Type 0
+Has None name found = ⊤
+Has (Some files) name found = files name ≡ found
 
 -- where its files are known, they stay, but for the one of this name
 abbrev pub KeepsOthers : Option (List ℕ → Option (List ℕ)) → List ℕ → Option (List ℕ → Option (List ℕ)) → Type 0
@@ -52,18 +43,18 @@ KeepsOthers (Some old) name (Some new) = (other : List ℕ) → other ≢ name �
 
 -- A fetch gives the bytes under the name, and changes no file.
 abbrev pub Fetches : StoreState → List ℕ → List ℕ → StoreState → Type 0
-Fetches s name bytes s' = Has s.files name bytes × (s' ≡ asked name false s)
+Fetches s name bytes s' = Has s.files name (Some bytes) × (s' ≡ asked name false s)
 
 -- A fetch that gives none is refused, which is counted, where the name is missing; or it finds no memory for what is
 -- under the name.
 abbrev pub FailsToFetch : StoreState → List ℕ → StoreError → StoreState → Type 0
-FailsToFetch s name Refused s' = Lacks s.files name × (s' ≡ asked name true (refused s))
-FailsToFetch s name NoMemory s' = Holds s.files name × (s' ≡ asked name false s)
+FailsToFetch s name Refused s' = Has s.files name None × (s' ≡ asked name true (refused s))
+FailsToFetch s name NoMemory s' = ((bytes : List ℕ) × Has s.files name (Some bytes)) × (s' ≡ asked name false s)
 
 -- A put leaves the bytes under the name, and the other files as they were.
 abbrev pub Puts : StoreState → List ℕ → List ℕ → StoreState → Type 0
 Puts s name bytes s' =
-    Has s'.files name bytes × KeepsOthers s.files name s'.files × (s'.refusals ≡ s.refusals)
+    Has s'.files name (Some bytes) × KeepsOthers s.files name s'.files × (s'.refusals ≡ s.refusals)
     × (s'.calls ≡ with_call true name false s.calls)
 
 -- A put that is refused is counted, and leaves the other files as they were.

@@ -14,8 +14,8 @@ pub enum StoreError {
     NoMemory,
 }
 
-/// Files by their names. Contracts know of it its files and its calls, each where the implementation tells them, and how
-/// often it has refused.
+/// Files by their names (chapter 23 of the book). Contracts know of it its files and its calls, each where the
+/// implementation tells them, and how often it has refused.
 pub trait Store {
     ghost use Rattle.p11_store.specs.Store.{StoreState, Fetches, FailsToFetch, Puts, FailsToPut};
     ghost use Rattle.p11_store.specs.declared.store.StoreError.TheVariants.{Refused};
@@ -23,11 +23,20 @@ pub trait Store {
     ghost state: { Self → StoreState };
 
     /// The bytes under a name.
+    ///
+    /// # Errors
+    ///
+    /// `Refused`, which is counted, where the name is missing or what holds the files failed; `NoMemory` where there is no
+    /// memory for the bytes.
     fn fetch<A: Allocator>(&mut self, alloc: A, name: &[u8]) -> Result<Vec<u8, A>, StoreError>
         ensures ok { IfOk result (λ bytes. Fetches (state self.old) name.now bytes.items (state self.new)) }
         ensures err { IfErr result (λ e. FailsToFetch (state self.old) name.now e (state self.new)) };
 
-    /// Leaves bytes under a name. It never answers `NoMemory`.
+    /// Leaves bytes under a name, in place of those that it had.
+    ///
+    /// # Errors
+    ///
+    /// `Refused` alone, which is counted: then what the name has isn't known, and the other names have what they had.
     fn put(&mut self, name: &[u8], bytes: &[u8]) -> Result<(), StoreError>
         ensures ok { OnOk result (Puts (state self.old) name.now bytes.now (state self.new)) }
         ensures err { IfErr result (λ e. (e ≡ Refused) × FailsToPut (state self.old) name.now (state self.new)) };

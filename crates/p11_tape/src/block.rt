@@ -93,7 +93,8 @@ fn count_of(offset: usize, bytes: &[u8]) -> Result<usize, TapeFault>
     Ok(count)
 }
 
-/// The block that begins what is left of a tape, or what is wrong with it.
+/// The block that begins what is left of a tape (chapter 19 of the book), or what is wrong with it, with its offset in
+/// bytes from the first byte of the tape.
 #[tactic(auto, unfolding(crate::specs::Fault::wrong_of, crate::specs::Fault::count_at, crate::specs::Fault::address_at))]
 pub fn next_block<'a>(tape: &[u8], rest: &'a [u8]) -> Result<Block<'a>, TapeFault>
     requires some { 0 < length rest.now }

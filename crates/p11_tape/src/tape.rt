@@ -9,7 +9,8 @@ use crate::bytes::TapeBytes;
 use crate::fault::{TapeFault, TapeFaultKind};
 use std::alloc::{AllocError, Allocator, Global};
 
-/// What a tape means: the bytes that it loads, and where it starts.
+/// What a tape means (chapter 19 of the book): the bytes that it loads, each with its 16-bit address, and the even
+/// address at which it starts, if it gives one.
 #[derive(Drop)]
 pub struct Tape<A: Allocator = Global> {
     /// Its data bytes, each with its address, in tape order. A later byte for the same address comes later.

@@ -8,7 +8,7 @@ use Rattle.p11_cpu.specs.Operator.{new_machine}
 use Rattle.p11_panel.specs.declared.command.Command.{Command}
 use Rattle.p11_panel.specs.declared.command.Command.TheVariants.{Flush}
 use Rattle.p11_panel.specs.Laws.Outcomes.{HadMemory}
-use Rattle.p11_panel.specs.Play.{Plays}
+use Rattle.p11_panel.specs.Play.{CommandsRun}
 use Rattle.p11_panel.specs.Calls.Sizes.{Sizes}
 
 -- A FLUSH anywhere in a list of commands is done, and without it every other answer and the last state are the same,
@@ -16,7 +16,7 @@ use Rattle.p11_panel.specs.Calls.Sizes.{Sizes}
 abbrev pub FlushShowsNothing : Type 0 → Type 0
 FlushShowsNothing A =
     (s : State) (before behind : List (Command A)) (given others : List (Answer A)) (s' t' : State)
-    → Plays s (before ++ Flush ∷ behind) given s' → Plays s (before ++ behind) others t'
+    → CommandsRun s (before ++ Flush ∷ behind) given s' → CommandsRun s (before ++ behind) others t'
     → All HadMemory given → All HadMemory others
     → ((first : List (Answer A)) × (more : List (Answer A)) × (length first ≡ length before)
     × (given ≡ first ++ Done ∷ more) × (others ≡ first ++ more)) × (s' ≡ t')
@@ -27,6 +27,6 @@ abbrev pub LinesShowNothing : Type 0 → Type 0
 LinesShowNothing A =
     (one other : Sizes) (commands : List (Command A)) (given others : List (Answer A)) (s' t' : State)
     → one.kwords ≡ other.kwords
-    → Plays (new_machine one.kwords) commands given s' → Plays (new_machine other.kwords) commands others t'
+    → CommandsRun (new_machine one.kwords) commands given s' → CommandsRun (new_machine other.kwords) commands others t'
     → All HadMemory given → All HadMemory others
     → (given ≡ others) × (s' ≡ t')

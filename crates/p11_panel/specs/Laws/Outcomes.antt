@@ -7,9 +7,9 @@ use Rattle.p11_lines.specs.declared.answer.StopReason.TheVariants.{Memory}
 use Rattle.p11_lines.specs.declared.fault.Fault.TheVariants.{NoMemory}
 use Rattle.p11_cpu.specs.State.{State}
 use Rattle.p11_panel.specs.declared.command.Command.{Command}
-use Rattle.p11_panel.specs.Commands.{Acts}
-use Rattle.p11_panel.specs.Play.{Plays}
-use Rattle.p11_panel.specs.Runs.{IsRun}
+use Rattle.p11_panel.specs.Commands.{CommandStep}
+use Rattle.p11_panel.specs.Play.{CommandsRun}
+use Rattle.p11_panel.specs.Calls.Runs.{IsRun}
 
 -- a run of n turns from s that want of memory doesn't stop makes one number of turns, for one reason, and comes to one
 -- state
@@ -28,12 +28,12 @@ HadMemory answer =
 abbrev pub CommandsHaveOneOutcome : Type 0 → Type 0
 CommandsHaveOneOutcome A =
     (s : State) (command : Command A) (answer other : Answer A) (s' t' : State)
-    → Acts s command answer s' → Acts s command other t' → HadMemory answer → HadMemory other
+    → CommandStep s command answer s' → CommandStep s command other t' → HadMemory answer → HadMemory other
     → (answer ≡ other) × (s' ≡ t')
 
 -- a list of commands has one list of answers and one last state
 abbrev pub ListsHaveOneOutcome : Type 0 → Type 0
 ListsHaveOneOutcome A =
     (s : State) (commands : List (Command A)) (given others : List (Answer A)) (s' t' : State)
-    → Plays s commands given s' → Plays s commands others t' → All HadMemory given → All HadMemory others
+    → CommandsRun s commands given s' → CommandsRun s commands others t' → All HadMemory given → All HadMemory others
     → (given ≡ others) × (s' ≡ t')

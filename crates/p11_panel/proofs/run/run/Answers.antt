@@ -1,6 +1,6 @@
 use Rattle.std.proofs.Common.{◌≡◌, ◌+◌, ◌≤◌, false, true, arith, ap, sym, ◌∙◌}
 use Rattle.std.specs.Result.{is_err}
-use Rattle.p11_panel.specs.Runs.{stops_idling}
+use Rattle.p11_panel.specs.Calls.Runs.{stops_idling}
 use Rattle.p11_panel.proofs.RunLemmas.{no_turn, none_more, many_more, many_that_halt, one_more, halting_turn, all_made, no_memory, needs_by, idle_now}
 use Rattle.p11_panel.proofs.run.run.Goals as goal
 

@@ -1,5 +1,5 @@
 use Rattle.std.proofs.Common.{◌≡◌, ◌+◌, ◌-◌, ◌≤◌}
-use Rattle.p11_panel.specs.Runs.{stops_idling}
+use Rattle.p11_panel.specs.Calls.Runs.{stops_idling}
 use Rattle.p11_panel.proofs.RunLemmas.{Goes}
 use Rattle.p11_panel.proofs.run.run.Given as goal
 

@@ -1,6 +1,6 @@
 use Rattle.std.proofs.Common.{◌≡◌, ◌+◌, ◌++◌, [], sym, refl, arith, ℕ, take, drop, append-nil}
 use Rattle.std.proofs.lemmas.Result.{err_from_is_err_and}
-use Rattle.p11_panel.proofs.SessionLemmas.{stands_is, broke_is, broke_bytes, chunk_more, chunk_rest, chunk_all}
+use Rattle.p11_panel.proofs.SessionLemmas.{stands_is, cut_is, cut_bytes, chunk_more, chunk_rest, chunk_all}
 use Rattle.p11_panel.proofs.script.feed.Goals as goal
 
 sums : (a b c : ℕ) → a + b + c ≡ a + (b + c)
@@ -18,9 +18,9 @@ returns-in_err-answered-clause-err g c =
     let bytes = c.args.bytes.now in
     let i = c.loop-byte.byte-index in
     rw e.1 (λ read s start count h.
-    let broke = c.in_err-answered.ensures.err (read ++ take i bytes) s start (count + c.loop-byte.answered) (c.loop-byte.invariant.stands read s start count h) in
-    let here = broke_is _ (read ++ take (i + 1) bytes) s start _ _ (chunk_more read bytes i c.loop-byte-test.true) broke in
-    broke_is _ (read ++ bytes) s start _ _ (chunk_rest read bytes (i + 1)) (broke_bytes (read ++ take (i + 1) bytes) (drop (i + 1) bytes) s start _ _ here))
+    let cut = c.in_err-answered.ensures.err (read ++ take i bytes) s start (count + c.loop-byte.answered) (c.loop-byte.invariant.stands read s start count h) in
+    let here = cut_is _ (read ++ take (i + 1) bytes) s start _ _ (chunk_more read bytes i c.loop-byte-test.true) cut in
+    cut_is _ (read ++ bytes) s start _ _ (chunk_rest read bytes (i + 1)) (cut_bytes (read ++ take (i + 1) bytes) (drop (i + 1) bytes) s start _ _ here))
 
 pub loop-byte-preserved : goal.loop-byte-preserved
 loop-byte-preserved g c = record {

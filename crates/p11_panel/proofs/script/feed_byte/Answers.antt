@@ -3,7 +3,7 @@ use Rattle.std.proofs.lemmas.Result.{err_from_is_err_and}
 use Rattle.p11_lines.specs.Writers.{Writes}
 use Rattle.p11_lines.proofs.Calls.{Writes-none}
 use Rattle.p11_lines.specs.AnswerText.{text_of}
-use Rattle.p11_panel.proofs.SessionLemmas.{stands_byte, stands_line, broke_line}
+use Rattle.p11_panel.proofs.SessionLemmas.{stands_byte, stands_line, cut_line}
 use Rattle.p11_panel.proofs.script.feed_byte.Goals as goal
 
 pub returns-then-byte-ne10-clause-ok : goal.returns-then-byte-ne10-clause-ok
@@ -18,7 +18,7 @@ returns-in_default-clause-ok g c read s start count h =
 pub returns-in_err-put_answer-clause-err : goal.returns-in_err-put_answer-clause-err
 returns-in_err-put_answer-clause-err g c =
     let e = err_from_is_err_and c.from_residual.result c.from_residual.ensures.1 in
-    rw e.1 (λ read s start count h. broke_line read s start _ (g.W.Sink.state c.args.writer.now) count _ c.args.byte c.in-Some.answer _ _ h c.if-byte-ne10.false c.in-Some.ensures c.in_err-put_answer.ensures.err)
+    rw e.1 (λ read s start count h. cut_line read s start _ (g.W.Sink.state c.args.writer.now) count _ c.args.byte c.in-Some.answer _ _ h c.if-byte-ne10.false c.in-Some.ensures c.in_err-put_answer.ensures.err)
 
 pub returns-clause-ok : goal.returns-clause-ok
 returns-clause-ok g c read s start count h =

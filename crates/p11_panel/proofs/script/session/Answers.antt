@@ -18,7 +18,7 @@ returns-in_default-clause-reading g c _ =
       c.loop-turn._turn,
       reads_failed (g.R.Source.state c.args.reader.now) (g.R.Source.state c.loop-turn.reader) (g.R.Source.state c.read.new.self) r.read _ r.reads c.in_default.ensures.bytes c.in_default.ensures.calls,
       omega (arith, c.loop-turn-test.true),
-      r.stands.did,
+      r.stands.done,
     )
 
 pub returns-then-len-eq0-clause-ok : goal.returns-then-len-eq0-clause-ok
@@ -40,7 +40,7 @@ returns-clause-long g c _ =
       c.loop-turn._turn,
       r.reads,
       omega (arith, c.loop-turn-test.false, c.loop-turn.auto._turn-end),
-      r.stands.did,
+      r.stands.done,
     )
 
 pub returns-in_err-answered-clause-broke : goal.returns-in_err-answered-clause-broke
