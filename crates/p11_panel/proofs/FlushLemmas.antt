@@ -6,15 +6,16 @@ use Rattle.p11_cpu.specs.Operator.{new_machine}
 use Rattle.p11_panel.specs.Play.{CommandsRun}
 use Rattle.p11_panel.specs.Laws.Outcomes.{HadMemory}
 use Rattle.p11_panel.specs.Laws.Flush.{FlushShowsNothing, LinesShowNothing}
-use Rattle.p11_panel.proofs.OutcomeLemmas.{step_once, commands_once}
+use Rattle.p11_panel.proofs.OutcomeLemmas.{has_outcome, step_once, commands_once}
 
 pub flush_out : {A : Type 0} → FlushShowsNothing A
 unfolding CommandsRun
 flush_out s [] behind [] others s' t' h k m l = absurd h
 flush_out {A} s [] behind (answer ∷ more) others s' t' h k m l =
     let P : State → Type 0 = λ x. CommandsRun {A = A} x behind more s' in
-    let same = commands_once s behind more others s' t' (subst P h.1.1 h.2) k (All-tail HadMemory answer more m) l in
-    (([], more, refl, ap (λ a. a ∷ more) h.1.0, sym same.0), same.1)
+    let done = has_outcome s _ answer h.0 (All-head HadMemory answer more m) h.1 in
+    let same = commands_once s behind more others s' t' (subst P (sym (ap (λ r. r.0) done)) h.2) k (All-tail HadMemory answer more m) l in
+    (([], more, refl, ap (λ r. r.1 ∷ more) (sym done), sym same.0), same.1)
 flush_out s (command ∷ before) behind [] others s' t' h k m l = absurd h
 flush_out s (command ∷ before) behind (answer ∷ given) [] s' t' h k m l = absurd k
 flush_out {A} s (command ∷ before) behind (answer ∷ given) (other ∷ others) s' t' h k m l =

@@ -9,7 +9,7 @@ use Rattle.p11_panel.specs.Play.{CommandsRun}
 use Rattle.p11_panel.specs.Laws.Outcomes.{HadMemory, CommandsHaveOneOutcome, ListsHaveOneOutcome}
 
 -- where memory neither refused the command nor stopped its run, it has its outcome
-has_outcome : {A : Type 0} (s : State) (command : Command A) (answer : Answer A) (s' : State) → HadMemory answer → CommandStep s command answer s' → outcome command s ≡ (s', answer)
+pub has_outcome : {A : Type 0} (s : State) (command : Command A) (answer : Answer A) (s' : State) → HadMemory answer → CommandStep s command answer s' → outcome command s ≡ (s', answer)
 has_outcome s command answer s' had (inl same) = same
 has_outcome s command answer s' had (inr (inl (takes, refused))) = absurd (had.0 refused.0)
 has_outcome s command answer s' had (inr (inr (k, below, needs, stops))) = absurd (had.1 _ k _ (sym (ap (λ r. r.1) stops)))

@@ -111,7 +111,7 @@ fn save_file<A: Allocator + Copy, S: Store>(
     }
 }
 
-/// Does a line of the console's language on a machine and a store of files. A line that names a file calls the store
+/// Does a line of the console's language on a machine and a store of files (chapter 23 of the book). A line that names a file calls the store
 /// once, by that name; all others leave it. What is refused comes as the answer.
 #[tactic(auto, unfolding(crate::specs::Session::Obeys))]
 pub fn obey<A: Allocator + Copy, S: Store>(

@@ -2,7 +2,8 @@
 use p11_lines::{Bytes, Words};
 use std::alloc::{Allocator, Global};
 
-/// A command of the operator's. Bus addresses have 18 bits, and words 16.
+/// A command of the operator's (chapters 16 to 20 of the book). Addresses are of bytes: `Examine` and `Deposit` take bus
+/// addresses of 18 bits, `Start` one of 16. Words have 16 bits, and drives are numbered from 0 to 7.
 #[derive(Drop)]
 pub enum Command<A: Allocator = Global> {
     /// Mount a pack that holds these bytes, and zeros behind them, on a drive, which may be protected from writes.

@@ -50,7 +50,7 @@ impl Config {
         }
     }
 
-    /// Thousands (1,024) of words of memory.
+    /// Thousands (1,024) of words of memory: 4 to 124.
     #[tactic(auto, unfolding(crate::specs::Calls::Sizes::is_size))]
     pub fn kwords(self) -> u32
         ensures value { result ≡ self.kwords }
@@ -59,7 +59,7 @@ impl Config {
         self.kwords
     }
 
-    /// How many decoded words may be kept.
+    /// How many decoded words may be kept: 0 to 4,096.
     #[tactic(auto, unfolding(crate::specs::Calls::Sizes::is_size))]
     pub fn lines(self) -> u32
         ensures value { result ≡ self.lines }

@@ -37,7 +37,8 @@ impl<A: Allocator> Model for Panel<A> {
 }
 
 impl<A: Allocator + Copy> Panel<A> {
-    /// A new machine of these sizes: zeros everywhere. The only error is want of memory.
+    /// A new machine of these sizes (chapter 16 of the book): zeros everywhere. The only error is want of memory, and
+    /// nothing is handed out then.
     pub fn new(alloc: A, config: Config) -> Result<Self, NoMemory>
         ensures { IfOk result (λ p. p ≡ new_machine config.kwords) }
     {
@@ -47,12 +48,13 @@ impl<A: Allocator + Copy> Panel<A> {
 }
 
 impl<A: Allocator + Copy> Panel<A> {
-    /// Does one command, and answers it.
+    /// Does one command, and answers it (chapter 20 of the book).
     ///
     /// A refused command answers its first fault and changes nothing. A `Mount`, a `Save`, a `Changed`, a `Load` and an
     /// `Examine` of several words may find no memory, and answer `NoMemory` then; no other command does. A `Step` or a
-    /// `Continue` of a user program that memory management keeps off the I/O page, in which no service begins, leaves
-    /// all memory that it doesn't reach, but for what disk reads store.
+    /// `Continue` that finds no memory for a turn stops before it, and answers the turns that it has made. One of a user
+    /// program that memory management keeps off the I/O page, in which no service begins, leaves all memory that it
+    /// doesn't reach, but for what disk reads store.
     pub fn act(&mut self, alloc: A, command: &Command<A>) -> Answer<A>
         ensures acts { CommandStep self.old command.now result self.new }
         ensures confined { ConfinesRun self.old command.now result self.new }

@@ -178,8 +178,8 @@ fn finish<A: Allocator + Copy, S: Store, W: Sink>(
     Ok(1)
 }
 
-/// Does the lines of a script, one after another, and writes the text of each answer as soon as its command is done. It
-/// answers how many lines were answered.
+/// Does the lines of a script, one after another, and writes the text of each answer as soon as its command is done
+/// (chapters 21 to 23 of the book). It answers how many lines were answered.
 ///
 /// LF ends a line, and a CR just before it is dropped; the last line may have no LF. A blank line and a line whose
 /// first byte past spaces and tabs is `#` have no answer. A refused line is answered, and the session goes on. A line

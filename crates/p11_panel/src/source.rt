@@ -14,7 +14,7 @@ pub trait Source {
 
     ghost state: { Self → ReaderState };
 
-    /// Gives the next bytes: how many they are, and none at the end.
+    /// Gives the next bytes: how many they are, and none at the end. The error is the reader's own; nothing is taken then.
     fn read(&mut self, bytes: &mut [u8]) -> io::Result<usize>
         ensures bound { ReadsAtMost result bytes.new }
         ensures bytes { ReadConsumes (state self.old).left (state self.new).left result bytes.new }

@@ -2,4 +2,4 @@ use Rattle.p11_panel.proofs.FlushLemmas.{flush_out}
 use Rattle.p11_panel.proofs.laws.flush_shows_nothing.Goals as goal
 
 pub returns : goal.returns
-returns g = flush_out
+returns g c = flush_out

@@ -2,4 +2,4 @@ use Rattle.p11_panel.proofs.FlushLemmas.{lines_show_nothing}
 use Rattle.p11_panel.proofs.laws.the_number_of_lines_shows_nothing.Goals as goal
 
 pub returns : goal.returns
-returns g = lines_show_nothing
+returns g c = lines_show_nothing
