@@ -52,11 +52,13 @@ module _ (A : Type 0) (p p' : State) (m m' : MemoryFiles) (answer start text : L
   CutLines lines = ScriptCut (LineDoes {A = A}) lines (with_store p (store_of m)) (holds_text start) (with_store p' (store_of m')) (holds_text text)
 
   plays : (lines : List (List ℕ)) (n : ℕ) → DidLines lines n → Plays A lines kept kept'
+  unfolding ScriptDone
   plays lines n did =
       let P : ℕ → Type 0 = λ r. LinesRun (LineDoes {A = A}) lines (with_store p (store_of (record { files = m.files; refusals = r }))) did.0 (with_store p' (store_of m')) in
       record { answers = did.0; refusals = m'.refusals; runs = subst P zero did.1; text_is = from_none start (texts_of did.0) text none did.2.bytes }
 
   stops : (lines : List (List ℕ)) → CutLines lines → Stops A lines kept kept'
+  unfolding ScriptDone ScriptCut
   stops lines broke =
       let P : ℕ → Type 0 = λ r. LinesRun (LineDoes {A = A}) broke.0 (with_store p (store_of (record { files = m.files; refusals = r }))) broke.7.0 broke.4 in
       record {

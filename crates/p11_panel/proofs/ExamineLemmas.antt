@@ -1,10 +1,8 @@
--- What EXAMINE comes to once its refusals are tried: a word, a list of words, or no memory for the list.
-use Rattle.std.proofs.Common.{◌≡◌, ℕ, ◌<◌, true, false, ◌==◌, List, [], ◌∷◌, None, refl, ap, subst, sym, ◌∙◌, arith, inl, inr}
-use Rattle.std.proofs.lemmas.Bool.{lt-ltb}
+-- What EXAMINE comes to once its refusals are tried: a word, or a list of words.
+use Rattle.std.proofs.Common.{◌≡◌, ℕ, ◌<◌, false, ◌==◌, List, [], ◌∷◌, None, refl, ap, ◌∙◌, arith, inl}
 use Rattle.std.specs.Prelude.{if◌then◌else◌, slice_index}
-use Rattle.p11_lines.specs.declared.fault.Fault.TheVariants.{NoMemory}
 use Rattle.p11_lines.specs.declared.answer.Answer.{Answer}
-use Rattle.p11_lines.specs.declared.answer.Answer.TheVariants.{Word, Words, Refused}
+use Rattle.p11_lines.specs.declared.answer.Answer.TheVariants.{Word, Words}
 use Rattle.p11_cpu.specs.State.{State}
 use Rattle.p11_cpu.specs.Operator.{examine_of}
 use Rattle.p11_panel.specs.declared.command.Command.TheVariants.{Examine}
@@ -39,7 +37,3 @@ examines_more {A} address n words s s' more free e =
     let several : (n == 1) ≡ false = grind (arith, more) in
     let answer : shown {A = A} address n (s', words) ≡ (s', Words address words) = rw several refl in
     done address n s s' (Words address words) free (shows address n s (s', words) e ∙ answer)
-
--- no memory for several words
-pub examines_none : {A : Type 0} (address n : ℕ) (s s' : State) → 1 < n → examine_fault address n s ≡ None → s' ≡ s → CommandStep {A = A} s (Examine address n) (Refused NoMemory) s'
-examines_none address n s s' more free same = inr (inl (rw (lt-ltb 1 n more, free) refl, refl, same))

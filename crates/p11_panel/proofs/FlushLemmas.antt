@@ -3,6 +3,7 @@ use Rattle.std.proofs.Common.{[], ◌∷◌, ◌++◌, refl, sym, ap, subst, ◌
 use Rattle.std.proofs.lemmas.List.Elements.{All-head, All-tail}
 use Rattle.p11_cpu.specs.State.{State}
 use Rattle.p11_cpu.specs.Operator.{new_machine}
+use Rattle.p11_panel.specs.declared.command.Command.TheVariants.{Flush}
 use Rattle.p11_panel.specs.Play.{CommandsRun}
 use Rattle.p11_panel.specs.Laws.Outcomes.{HadMemory}
 use Rattle.p11_panel.specs.Laws.Flush.{FlushShowsNothing, LinesShowNothing}
@@ -13,7 +14,7 @@ unfolding CommandsRun
 flush_out s [] behind [] others s' t' h k m l = absurd h
 flush_out {A} s [] behind (answer ∷ more) others s' t' h k m l =
     let P : State → Type 0 = λ x. CommandsRun {A = A} x behind more s' in
-    let done = has_outcome s _ answer h.0 (All-head HadMemory answer more m) h.1 in
+    let done = has_outcome s Flush answer h.0 (All-head HadMemory answer more m) h.1 in
     let same = commands_once s behind more others s' t' (subst P (sym (ap (λ r. r.0) done)) h.2) k (All-tail HadMemory answer more m) l in
     (([], more, refl, ap (λ r. r.1 ∷ more) (sym done), sym same.0), same.1)
 flush_out s (command ∷ before) behind [] others s' t' h k m l = absurd h

@@ -44,10 +44,11 @@ module _ {S A : Type 0} (Does : List ℕ → S → Option (Answer A) → S → T
     ap (λ (x : List (Answer A)). x ++ option_to_list answer) r.5 ∙ append_assoc (option_to_list r.0) r.2 (option_to_list answer),
   )
 
-module _ {S A : Type 0} {Does : List ℕ → S → Option (Answer A) → S → Type 0} where
+module _ {S A : Type 0} (Does : List ℕ → S → Option (Answer A) → S → Type 0) where
   -- one line more is done
   done_push : (lines : List (List ℕ)) (s : S) (a : WriterState) (s' : S) (b : WriterState) (n : ℕ) (line : List ℕ) (answer : Option (Answer A)) (s'' : S) (c : WriterState) (k : ℕ)
       → ScriptDone Does lines s a s' b n → Does line s' answer s'' → Writes b c (texts_of (option_to_list answer)) [] → k ≡ length (option_to_list answer) → ScriptDone Does (lines ++ line ∷ []) s a s'' c (n + k)
+  unfolding ScriptDone
   done_push lines s a s' b n line answer s'' c k h d w e = (
     h.0 ++ option_to_list answer,
     runs_push Does lines s h.0 s' line answer s'' h.1 d,
@@ -58,54 +59,11 @@ module _ {S A : Type 0} {Does : List ℕ → S → Option (Answer A) → S → T
   -- one line more is done, and not all of its text is written
   cut_push : (lines more : List (List ℕ)) (s : S) (a : WriterState) (s' : S) (b : WriterState) (n : ℕ) (line : List ℕ) (answer : Answer A) (s'' : S) (c : WriterState)
       → ScriptDone Does lines s a s' b n → Does line s' (Some answer) s'' → AppendsFront b c (text_of answer) → ScriptCut Does (lines ++ line ∷ more) s a s'' c
+  unfolding ScriptCut
   cut_push lines more s a s' b n line answer s'' c h d w = (lines, line, more, refl, s', b, n, h, answer, d, w)
 
-  -- a byte other than LF
-  pub stands_byte : (read : List ℕ) (s : S) (a : WriterState) (s' : S) (b : WriterState) (n : ℕ) (buffer after : Option (List ℕ)) (byte : ℕ)
-      → Stands Does read s a s' b n buffer → (byte ≡ 10 → ⊥) → after ≡ pushed buffer byte → Stands Does (read ++ byte ∷ []) s a s' b (n + 0) after
-  stands_byte read s a s' b n buffer after byte h ne e =
-      let other : nat_eq byte 10 ≡ false = ne_eqb byte 10 ne in
-      record {
-        done = rw (lines_at_other read byte other, add-zero) h.done;
-        buffer_is = e ∙ (ap (λ (x : Option (List ℕ)). pushed x byte) h.buffer_is ∙ (kept_push (cut_at_lf read).last byte ∙ ap kept (sym (last_at_other read byte other))));
-      }
-
-  -- LF
-  pub stands_line : (read : List ℕ) (s : S) (a : WriterState) (s' : S) (b : WriterState) (n : ℕ) (buffer after : Option (List ℕ)) (byte : ℕ) (answer : Option (Answer A)) (s'' : S) (c : WriterState) (k : ℕ)
-      → Stands Does read s a s' b n buffer → byte ≡ 10 → ((piece : List ℕ) → buffer ≡ kept piece → Does (without_cr piece) s' answer s'')
-      → Writes b c (texts_of (option_to_list answer)) [] → k ≡ length (option_to_list answer) → after ≡ Some []
-      → Stands Does (read ++ byte ∷ []) s a s'' c (n + k) after
-  stands_line read s a s' b n buffer after byte answer s'' c k h lf does w e nil =
-      let is_lf : nat_eq byte 10 ≡ true = eq-eqb byte 10 lf in
-      record {
-        done = subst (λ (x : List (List ℕ)). ScriptDone Does x s a s'' c (n + k)) (sym (lines_at_lf read byte is_lf))
-            (done_push (ended_lines read) s a s' b n (without_cr (cut_at_lf read).last) answer s'' c k h.done (does (cut_at_lf read).last h.buffer_is) w e);
-        buffer_is = nil ∙ (sym kept_nil ∙ ap kept (sym (last_at_lf read byte is_lf)));
-      }
-
-  pub cut_line : (read : List ℕ) (s : S) (a : WriterState) (s' : S) (b : WriterState) (n : ℕ) (buffer : Option (List ℕ)) (byte : ℕ) (answer : Answer A) (s'' : S) (c : WriterState)
-      → Stands Does read s a s' b n buffer → byte ≡ 10 → ((piece : List ℕ) → buffer ≡ kept piece → Does (without_cr piece) s' (Some answer) s'')
-      → AppendsFront b c (text_of answer) → ScriptCut Does (ended_lines (read ++ byte ∷ [])) s a s'' c
-  cut_line read s a s' b n buffer byte answer s'' c h lf does w =
-      subst (λ (x : List (List ℕ)). ScriptCut Does x s a s'' c) (sym (lines_at_lf read byte (eq-eqb byte 10 lf)))
-      (cut_push (ended_lines read) [] s a s' b n (without_cr (cut_at_lf read).last) answer s'' c h.done (does (cut_at_lf read).last h.buffer_is) w)
-
-  -- the last line
-  pub done_last : (read : List ℕ) (s : S) (a : WriterState) (s' : S) (b : WriterState) (n : ℕ) (buffer : Option (List ℕ)) (answer : Option (Answer A)) (s'' : S) (c : WriterState) (k : ℕ)
-      → Stands Does read s a s' b n buffer → ((piece : List ℕ) → buffer ≡ kept piece → Does piece s' answer s'')
-      → Writes b c (texts_of (option_to_list answer)) [] → k ≡ length (option_to_list answer) → ScriptDone Does (script_lines read) s a s'' c (n + k)
-  done_last read s a s' b n buffer answer s'' c k h does w e =
-      subst (λ (x : List (List ℕ)). ScriptDone Does x s a s'' c (n + k)) (sym (all_lines read))
-      (done_push (ended_lines read) s a s' b n (cut_at_lf read).last answer s'' c k h.done (does (cut_at_lf read).last h.buffer_is) w e)
-
-  pub cut_last : (read : List ℕ) (s : S) (a : WriterState) (s' : S) (b : WriterState) (n : ℕ) (buffer : Option (List ℕ)) (answer : Answer A) (s'' : S) (c : WriterState)
-      → Stands Does read s a s' b n buffer → ((piece : List ℕ) → buffer ≡ kept piece → Does piece s' (Some answer) s'')
-      → AppendsFront b c (text_of answer) → ScriptCut Does (script_lines read) s a s'' c
-  cut_last read s a s' b n buffer answer s'' c h does w =
-      subst (λ (x : List (List ℕ)). ScriptCut Does x s a s'' c) (sym (all_lines read))
-      (cut_push (ended_lines read) [] s a s' b n (cut_at_lf read).last answer s'' c h.done (does (cut_at_lf read).last h.buffer_is) w)
-
   cut_wider : (lines others : List (List ℕ)) (s : S) (a : WriterState) (s' : S) (b : WriterState) → ScriptCut Does lines s a s' b → ScriptCut Does (lines ++ others) s a s' b
+  unfolding ScriptCut
   cut_wider lines others s a s' b h = (
     h.0,
     h.1,
@@ -126,16 +84,62 @@ module _ {S A : Type 0} {Does : List ℕ → S → Option (Answer A) → S → T
       let front = lines_front read more in
       subst (λ (x : List (List ℕ)). ScriptCut Does x s a s' b) (sym front.1) (cut_wider (ended_lines read) front.0 s a s' b h)
 
+  pub cut_is : (read same : List ℕ) (s : S) (a : WriterState) (s' : S) (b : WriterState) → read ≡ same → ScriptCut Does (ended_lines read) s a s' b → ScriptCut Does (ended_lines same) s a s' b
+  cut_is read same s a s' b e h = subst (λ (x : List ℕ). ScriptCut Does (ended_lines x) s a s' b) e h
+
+module _ {S A : Type 0} {Does : List ℕ → S → Option (Answer A) → S → Type 0} where
+  -- a byte other than LF
+  pub stands_byte : (read : List ℕ) (s : S) (a : WriterState) (s' : S) (b : WriterState) (n : ℕ) (buffer after : Option (List ℕ)) (byte : ℕ)
+      → Stands Does read s a s' b n buffer → (byte ≡ 10 → ⊥) → after ≡ pushed buffer byte → Stands Does (read ++ byte ∷ []) s a s' b (n + 0) after
+  stands_byte read s a s' b n buffer after byte h ne e =
+      let other : nat_eq byte 10 ≡ false = ne_eqb byte 10 ne in
+      record {
+        done = rw (lines_at_other read byte other, add-zero) h.done;
+        buffer_is = e ∙ (ap (λ (x : Option (List ℕ)). pushed x byte) h.buffer_is ∙ (kept_push (cut_at_lf read).last byte ∙ ap kept (sym (last_at_other read byte other))));
+      }
+
+  -- LF
+  pub stands_line : (read : List ℕ) (s : S) (a : WriterState) (s' : S) (b : WriterState) (n : ℕ) (buffer after : Option (List ℕ)) (byte : ℕ) (answer : Option (Answer A)) (s'' : S) (c : WriterState) (k : ℕ)
+      → Stands Does read s a s' b n buffer → byte ≡ 10 → ((piece : List ℕ) → buffer ≡ kept piece → Does (without_cr piece) s' answer s'')
+      → Writes b c (texts_of (option_to_list answer)) [] → k ≡ length (option_to_list answer) → after ≡ Some []
+      → Stands Does (read ++ byte ∷ []) s a s'' c (n + k) after
+  stands_line read s a s' b n buffer after byte answer s'' c k h lf does w e nil =
+      let is_lf : nat_eq byte 10 ≡ true = eq-eqb byte 10 lf in
+      record {
+        done = subst (λ (x : List (List ℕ)). ScriptDone Does x s a s'' c (n + k)) (sym (lines_at_lf read byte is_lf))
+            (done_push Does (ended_lines read) s a s' b n (without_cr (cut_at_lf read).last) answer s'' c k h.done (does (cut_at_lf read).last h.buffer_is) w e);
+        buffer_is = nil ∙ (sym kept_nil ∙ ap kept (sym (last_at_lf read byte is_lf)));
+      }
+
+  pub cut_line : (read : List ℕ) (s : S) (a : WriterState) (s' : S) (b : WriterState) (n : ℕ) (buffer : Option (List ℕ)) (byte : ℕ) (answer : Answer A) (s'' : S) (c : WriterState)
+      → Stands Does read s a s' b n buffer → byte ≡ 10 → ((piece : List ℕ) → buffer ≡ kept piece → Does (without_cr piece) s' (Some answer) s'')
+      → AppendsFront b c (text_of answer) → ScriptCut Does (ended_lines (read ++ byte ∷ [])) s a s'' c
+  cut_line read s a s' b n buffer byte answer s'' c h lf does w =
+      subst (λ (x : List (List ℕ)). ScriptCut Does x s a s'' c) (sym (lines_at_lf read byte (eq-eqb byte 10 lf)))
+      (cut_push Does (ended_lines read) [] s a s' b n (without_cr (cut_at_lf read).last) answer s'' c h.done (does (cut_at_lf read).last h.buffer_is) w)
+
+  -- the last line
+  pub done_last : (read : List ℕ) (s : S) (a : WriterState) (s' : S) (b : WriterState) (n : ℕ) (buffer : Option (List ℕ)) (answer : Option (Answer A)) (s'' : S) (c : WriterState) (k : ℕ)
+      → Stands Does read s a s' b n buffer → ((piece : List ℕ) → buffer ≡ kept piece → Does piece s' answer s'')
+      → Writes b c (texts_of (option_to_list answer)) [] → k ≡ length (option_to_list answer) → ScriptDone Does (script_lines read) s a s'' c (n + k)
+  done_last read s a s' b n buffer answer s'' c k h does w e =
+      subst (λ (x : List (List ℕ)). ScriptDone Does x s a s'' c (n + k)) (sym (all_lines read))
+      (done_push Does (ended_lines read) s a s' b n (cut_at_lf read).last answer s'' c k h.done (does (cut_at_lf read).last h.buffer_is) w e)
+
+  pub cut_last : (read : List ℕ) (s : S) (a : WriterState) (s' : S) (b : WriterState) (n : ℕ) (buffer : Option (List ℕ)) (answer : Answer A) (s'' : S) (c : WriterState)
+      → Stands Does read s a s' b n buffer → ((piece : List ℕ) → buffer ≡ kept piece → Does piece s' (Some answer) s'')
+      → AppendsFront b c (text_of answer) → ScriptCut Does (script_lines read) s a s'' c
+  cut_last read s a s' b n buffer answer s'' c h does w =
+      subst (λ (x : List (List ℕ)). ScriptCut Does x s a s'' c) (sym (all_lines read))
+      (cut_push Does (ended_lines read) [] s a s' b n (cut_at_lf read).last answer s'' c h.done (does (cut_at_lf read).last h.buffer_is) w)
+
   -- the same bytes, and the same count
   pub stands_is : (read same : List ℕ) (s : S) (a : WriterState) (s' : S) (b : WriterState) (n m : ℕ) (buffer : Option (List ℕ)) → read ≡ same → n ≡ m → Stands Does read s a s' b n buffer → Stands Does same s a s' b m buffer
   stands_is read same s a s' b n m buffer e f h = subst (λ (x : List ℕ). Stands Does x s a s' b m buffer) e (subst (λ (k : ℕ). Stands Does read s a s' b k buffer) f h)
 
-  pub cut_is : (read same : List ℕ) (s : S) (a : WriterState) (s' : S) (b : WriterState) → read ≡ same → ScriptCut Does (ended_lines read) s a s' b → ScriptCut Does (ended_lines same) s a s' b
-  cut_is read same s a s' b e h = subst (λ (x : List ℕ). ScriptCut Does (ended_lines x) s a s' b) e h
-
   -- nothing is read yet
   pub stands_none : (s : S) (a : WriterState) (buffer : Option (List ℕ)) → buffer ≡ Some [] → Stands Does [] s a s a 0 buffer
-  unfolding LinesRun ended_lines cut_at_lf
+  unfolding ScriptDone LinesRun ended_lines cut_at_lf
   stands_none s a buffer e = record {
     done = ([], (refl, refl), Writes-none a, refl);
     buffer_is = e ∙ sym kept_nil;

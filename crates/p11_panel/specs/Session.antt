@@ -112,14 +112,14 @@ module _ {S A : Type 0} (Does : List ℕ → S → Option (Answer A) → S → T
       × Does line s answer s' × LinesRun lines s' others s'' × (answers ≡ option_to_list answer ++ others)
 
   -- These lines are done: from s to s', with so many answers; and their text is written: no write fails.
-  abbrev pub ScriptDone : List (List ℕ) → S → WriterState → S → WriterState → ℕ → Type 0
+  unfoldable pub ScriptDone : List (List ℕ) → S → WriterState → S → WriterState → ℕ → Type 0
   ScriptDone lines s old s' new count =
       (answers : List (Answer A)) × LinesRun lines s answers s'
       × Writes old new (texts_of answers) [] × (count ≡ length answers)
 
   -- Of these lines just those up to one are done, itself included. All earlier texts are written whole, and of its own
   -- text a front that isn't all of it, since the last write failed or took nothing.
-  abbrev pub ScriptCut : List (List ℕ) → S → WriterState → S → WriterState → Type 0
+  unfoldable pub ScriptCut : List (List ℕ) → S → WriterState → S → WriterState → Type 0
   ScriptCut lines s old s' new =
       (earlier : List (List ℕ)) × (line : List ℕ) × (others : List (List ℕ)) × (lines ≡ earlier ++ line ∷ others)
       × (before : S) × (between : WriterState) × (count : ℕ) × ScriptDone earlier s old before between count

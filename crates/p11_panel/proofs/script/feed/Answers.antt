@@ -1,5 +1,6 @@
 use Rattle.std.proofs.Common.{◌≡◌, ◌+◌, ◌++◌, [], sym, refl, arith, ℕ, take, drop, append-nil}
 use Rattle.std.proofs.lemmas.Result.{err_from_is_err_and}
+use Rattle.p11_panel.specs.Session.{LineDoes}
 use Rattle.p11_panel.proofs.SessionLemmas.{stands_is, cut_is, cut_bytes, chunk_more, chunk_rest, chunk_all}
 use Rattle.p11_panel.proofs.script.feed.Goals as goal
 
@@ -19,8 +20,9 @@ returns-in_err-answered-clause-err g c =
     let i = c.loop-byte.byte-index in
     rw e.1 (λ read s start count h.
     let cut = c.in_err-answered.ensures.err (read ++ take i bytes) s start (count + c.loop-byte.answered) (c.loop-byte.invariant.stands read s start count h) in
-    let here = cut_is _ (read ++ take (i + 1) bytes) s start _ _ (chunk_more read bytes i c.loop-byte-test.true) cut in
-    cut_is _ (read ++ bytes) s start _ _ (chunk_rest read bytes (i + 1)) (cut_bytes (read ++ take (i + 1) bytes) (drop (i + 1) bytes) s start _ _ here))
+    let Does = LineDoes {A = g.row.A.Denot} in
+    let here = cut_is Does _ (read ++ take (i + 1) bytes) s start _ _ (chunk_more read bytes i c.loop-byte-test.true) cut in
+    cut_is Does _ (read ++ bytes) s start _ _ (chunk_rest read bytes (i + 1)) (cut_bytes Does (read ++ take (i + 1) bytes) (drop (i + 1) bytes) s start _ _ here))
 
 pub loop-byte-preserved : goal.loop-byte-preserved
 loop-byte-preserved g c = record {
