@@ -1,5 +1,5 @@
 -- One outcome of a command, and of a list of commands.
-use Rattle.std.proofs.Common.{◌≡◌, List, [], ◌∷◌, refl, sym, ap, subst, ◌∙◌, inl, inr}
+use Rattle.std.proofs.Common.{◌≡◌, [], ◌∷◌, refl, sym, ap, subst, ◌∙◌, inl, inr}
 use Rattle.std.proofs.lemmas.List.Elements.{All-head, All-tail}
 use Rattle.p11_lines.specs.declared.answer.Answer.{Answer}
 use Rattle.p11_cpu.specs.State.{State}

@@ -146,10 +146,10 @@ module _ (until_idle : Bool) (n : ℕ) (s : State) where
   unfolding turns_made first_or
   makes_fewer k goes_on running other =
       let later = comes_later (ends_after until_idle s) 0 n k n (fewer k (at_most k goes_on) other)
-          (λ j below. elim (cases_lt j k) [
-            | inl earlier ↦ before k goes_on j earlier
-            | inr now ↦ let same : k ≡ 0 + j = omega (arith, below, now) in subst (λ i. ends_after until_idle s i ≡ false) same running
-          ]) (omega arith) in
+      (λ j below. elim (cases_lt j k) [
+        | inl earlier ↦ before k goes_on j earlier
+        | inr now ↦ let same : k ≡ 0 + j = omega (arith, below, now) in subst (λ i. ends_after until_idle s i ≡ false) same running
+      ]) (omega arith) in
       subst (λ i. i < turns_made until_idle n s) (sym (from_none k)) later
 
 -- THE COMMAND

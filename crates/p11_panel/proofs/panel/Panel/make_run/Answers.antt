@@ -1,9 +1,7 @@
 use Rattle.std.proofs.Common.{◌≡◌, ◌∙◌, ap, sym}
 use Rattle.p11_lines.specs.declared.answer.Answer.{Answer}
 use Rattle.p11_lines.specs.declared.answer.Answer.TheVariants as answers
-use Rattle.p11_cpu.specs.State.{State}
 use Rattle.p11_panel.specs.Calls.Runs.{IsRun, stops_idling}
-use Rattle.p11_panel.specs.Runs.{stopped}
 use Rattle.p11_panel.proofs.ConfinedRuns.{stop_confined}
 use Rattle.p11_panel.proofs.RunOutcomes.{run_steps, stopped_as}
 use Rattle.p11_panel.proofs.panel.Panel.make_run.Goals as goal
