@@ -11,7 +11,8 @@ use p11_lines::{Answer, NoMemory};
 use std::alloc::Allocator;
 
 /// Does a list of commands, one after another, on a new machine of these sizes (chapter 20 of the book): the panel after
-/// the last of them, and the list of their answers, one for each. Each run in the list leaves what `Panel::act` says that it leaves.
+/// the last of them, and the list of their answers, one for each. Each run in the list leaves what `Panel::act` says that
+/// it leaves.
 ///
 /// The only error is want of memory, for the machine or for the list of answers; nothing is handed out then.
 pub fn play<A: Allocator + Copy>(
