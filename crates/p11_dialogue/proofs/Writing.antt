@@ -1,14 +1,20 @@
 -- Texts that are written whole, or a front of them.
-use Rattle.std.proofs.Common.{◌≡◌, ℕ, ◌-◌, ◌<◌, ◌≤◌, Bool, true, false, List, [], ◌∷◌, ◌++◌, length, take, drop, Option, None, Some, refl, sym, ap, subst, ◌∙◌, append_assoc, append-nil, take-append-drop, arith}
-use Rattle.std.proofs.lemmas.Bool.{cases_Bool}
+use Rattle.std.proofs.Common.{◌≡◌, ℕ, ◌-◌, Bool, List, [], ◌++◌, length, take, drop, Option, refl, sym, ap, subst, ◌∙◌, append_assoc, append-nil, take-append-drop, arith}
 use Rattle.std.proofs.lemmas.List.{nil_from_length, take_all, length-drop}
 use Rattle.std.specs.Io.KnownBytes.{Appends, Keeps}
-use Rattle.std.specs.List.{flat_map}
 use Rattle.std.proofs.KnownBytes.{Appends-nil, Appends-trans, Appends-kept}
+use Rattle.p11_lines.specs.Writers.{Writes}
+use Rattle.p11_lines.specs.Written.{AppendsFront}
 use Rattle.p11_dialogue.specs.Deeds.{Fronts}
 
 pub Fronts_none : (a : Option (List ℕ)) (text : List ℕ) → Fronts a a text
 Fronts_none a text = record { front = []; rest = text; written = Appends-nil a; split = refl }
+
+pub Fronts_kept : (a b : Option (List ℕ)) → Keeps a b → Fronts a b []
+Fronts_kept a b kept = record { front = []; rest = []; written = Appends-kept a a b [] (Appends-nil a) kept; split = refl }
+
+pub Fronts_all : (a b : Option (List ℕ)) (text : List ℕ) → Appends a b text → Fronts a b text
+Fronts_all a b text all = record { front = text; rest = []; written = all; split = sym (append-nil text) }
 
 -- a front is written, and this is left
 pub record Left (a b : Option (List ℕ)) (text rest : List ℕ) : Type 0 where
@@ -39,3 +45,11 @@ Left_none a b text rest so_far none =
     let nil : rest ≡ [] = nil_from_length rest none in
     let whole : so_far.front ≡ text = sym (so_far.split ∙ ap (λ (t : List ℕ). so_far.front ++ t) nil ∙ append-nil so_far.front) in
     subst (λ (t : List ℕ). Appends a b t) whole so_far.written
+
+-- what a writer of whose writes nothing is known says of its bytes
+pub Appends_written : (a b : Option (List ℕ)) (v w : Option (List Bool)) (text : List ℕ) → Writes (record { bytes = a; writes = v }) (record { bytes = b; writes = w }) text [] → Appends a b text
+Appends_written a b v w text written = written.bytes
+
+pub Fronts_written : (a b : Option (List ℕ)) (v w : Option (List Bool)) (text : List ℕ) → AppendsFront (record { bytes = a; writes = v }) (record { bytes = b; writes = w }) text → Fronts a b text
+Fronts_written a b v w text part =
+    record { front = part.front; rest = part.back; written = part.written.bytes; split = part.split }

@@ -1,4 +1,6 @@
 // What the program says to the person at the console.
+ghost use Rattle.std.specs.Prelude.{◌≡◌};
+
 use crate::whole::write_whole;
 use itoa::Buffer;
 use p11_lines::{StdWriter, put_answer};
@@ -9,7 +11,7 @@ use std::io::Write;
 /// The writer of all that is said, but for what the machine types. Once it has failed nothing more is said.
 #[derive(Drop)]
 pub(crate) struct Console<W> {
-    writer: StdWriter<W>,
+    pub(crate) writer: StdWriter<W>,
     is_torn: bool,
 }
 
@@ -24,6 +26,15 @@ impl<W: Write> Console<W> {
     /// Whether the writer has failed, or took nothing.
     pub(crate) fn is_torn(&self) -> bool {
         self.is_torn
+    }
+
+    /// The writer.
+    pub(crate) fn into_inner(self) -> W
+        ensures { result ≡ self.writer.inner }
+    {
+        let Console { writer, is_torn: _ } = self;
+        let StdWriter { inner } = writer;
+        inner
     }
 
     /// Says bytes.

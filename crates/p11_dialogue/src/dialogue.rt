@@ -107,14 +107,17 @@ impl<
 
     /// Tells of each drive with sectors that no file has; whether there is one.
     fn tell(&mut self) -> bool {
-        let Some(devices) = self.desk.devices(self.alloc) else {
+        let Some(devices) = self.console.writer.inner.devices(self.alloc) else {
             return false;
         };
         let mut found = false;
         for drive in 0..8u32 {
-            let is_unsaved = self
-                .saved
-                .is_unsaved(self.alloc, &mut self.desk, &devices, drive);
+            let is_unsaved = self.saved.is_unsaved(
+                self.alloc,
+                &mut self.console.writer.inner,
+                &devices,
+                drive,
+            );
             if is_unsaved {
                 found = true;
                 self.console.say("Drive ");

@@ -1,4 +1,5 @@
 // A line of the console's language, that a person types or a script has.
+use crate::console::Console;
 use crate::desk::Opening;
 use crate::host::Host;
 use crate::keyboard::{Keyboard, Press};
@@ -48,7 +49,7 @@ impl<
 > Seat<A, S, T, L, O, K, W, E> {
     /// Says why a line is refused.
     pub(crate) fn refuse(&mut self, line: &[u8], fault: Fault, origin: Origin<'_>) {
-        let note = self.desk.tape_note();
+        let note = self.console.writer.inner.tape_note();
         match origin {
             Origin::Typed => {
                 let answer = Answer::<A>::Refused(fault);
@@ -89,16 +90,15 @@ impl<
             let _ = self.written.add(self.alloc, name.as_slice());
         }
         let change = change_of(&line);
-        match self.desk.attempt(self.alloc, line) {
+        match self.console.writer.inner.answer(self.alloc, line) {
             None => {}
             Some(Answer::Refused(fault)) => self.refuse(text, fault, origin),
-            Some(answer) => {
-                self.console.answer(&answer);
+            Some(_) => {
                 self.warn_of_tape(text, origin);
                 match change {
                     Change::None => {}
                     Change::Pack(drive) => self.saved.forget(drive),
-                    Change::Saved(drive) => self.saved.note(self.alloc, &mut self.desk, drive),
+                    Change::Saved(drive) => self.note_saved(drive),
                 }
             }
         }
@@ -106,22 +106,22 @@ impl<
 
     /// Warns of a tape that has no block.
     fn warn_of_tape(&mut self, text: &[u8], origin: Origin<'_>) {
-        let warning = match self.desk.tape_note() {
+        let warning = match self.console.writer.inner.tape_note() {
             TapeNote::Empty => "the file is empty: there is no block on the tape",
             TapeNote::Zeros => "the file has zeros alone: there is no block on the tape",
             _ => return,
         };
-        let said = if self.is_batch {
-            &mut self.errors
+        if self.is_batch {
+            say_warning(&mut self.errors, warning, text, origin);
         } else {
-            &mut self.console
-        };
-        match origin {
-            Origin::Typed => said.say("  "),
-            Origin::Script(place) => say_at(said, place, text),
+            say_warning(&mut self.console, warning, text, origin);
         }
-        said.say(warning);
-        said.say(".\n");
+    }
+
+    /// A drive was saved: keeps what it holds.
+    fn note_saved(&mut self, drive: u32) {
+        self.saved
+            .note(self.alloc, &mut self.console.writer.inner, drive);
     }
 
     /// What becomes of a `save` to a file.
@@ -165,7 +165,7 @@ impl<
 
     /// Answers a `save`, and writes nothing.
     fn answer_save(&mut self, text: &[u8], drive: u32, name: &[u8], origin: Origin<'_>) {
-        if let Some(fault) = self.desk.save_refusal(self.alloc, drive) {
+        if let Some(fault) = self.console.writer.inner.save_refusal(self.alloc, drive) {
             self.refuse(text, fault, origin);
             return;
         }
@@ -174,6 +174,16 @@ impl<
             self.console.say("  nothing is written: --no-save.\n");
         }
         let _ = self.unwritten.add(self.alloc, name);
-        self.saved.note(self.alloc, &mut self.desk, drive);
+        self.note_saved(drive);
     }
+}
+
+/// Says a warning, of a script's line with its place.
+fn say_warning<W: Write>(said: &mut Console<W>, warning: &str, text: &[u8], origin: Origin<'_>) {
+    match origin {
+        Origin::Typed => said.say("  "),
+        Origin::Script(place) => say_at(said, place, text),
+    }
+    said.say(warning);
+    said.say(".\n");
 }

@@ -1,4 +1,7 @@
 // Runs of the machine in slices, between which the keyboard is asked.
+ghost use Rattle.std.specs.Prelude.{◌≡◌, true};
+ghost use Rattle.p11_dialogue.specs.Deeds.{is_of_run};
+
 use crate::console::Console;
 use crate::desk::{Desk, Opening};
 use crate::keyboard::{ESCAPE, Input, Keyboard, Press, Waiting};
@@ -152,9 +155,9 @@ fn take_line<K: Keyboard>(input: &mut Input<K>, waiting: &mut Waiting) -> Look {
 }
 
 /// Presses as many of the keys that wait as there is room for; whether one was pressed.
-fn press<A: Allocator + Copy, S: Store, T: Write, L: Write, O: Opening>(
+fn press<A: Allocator + Copy, S: Store, T: Write, L: Write, O: Opening, W: Write>(
     alloc: A,
-    desk: &mut Desk<A, S, T, L, O>,
+    desk: &mut Desk<A, S, T, L, O, W>,
     waiting: &mut Waiting,
 ) -> bool {
     if waiting.is_empty() {
@@ -173,7 +176,7 @@ fn press<A: Allocator + Copy, S: Store, T: Write, L: Write, O: Opening>(
         return false;
     };
     let text = Bytes::from_vec(text);
-    match desk.attempt(alloc, Line::Key { text }) {
+    match desk.run_line(alloc, Line::Key { text }) {
         Some(Answer::Done) => {
             waiting.drop_front(count);
             true
@@ -193,21 +196,28 @@ fn next_turns(course: &Course, made: u64, most: u32) -> u32 {
     }
 }
 
+/// The line of a slice of so many turns.
+fn slice_line<A: Allocator>(course: &Course, turns: u32) -> Line<A>
+    ensures { is_of_run result ≡ true }
+{
+    if course.until_idle || course.turns.is_none() {
+        Line::Continue { turns }
+    } else {
+        Line::Step { turns }
+    }
+}
+
 /// Makes the next slice.
-fn make_slice<A: Allocator + Copy, S: Store, T: Write, L: Write, O: Opening>(
+fn make_slice<A: Allocator + Copy, S: Store, T: Write, L: Write, O: Opening, W: Write>(
     alloc: A,
-    desk: &mut Desk<A, S, T, L, O>,
+    desk: &mut Desk<A, S, T, L, O, W>,
     course: &Course,
     most: u32,
     run: &mut Run,
 ) -> Slice {
     let turns = next_turns(course, run.turns, most);
-    let line = if course.until_idle || course.turns.is_none() {
-        Line::Continue { turns }
-    } else {
-        Line::Step { turns }
-    };
-    match desk.attempt(alloc, line) {
+    let line = slice_line(course, turns);
+    match desk.run_line(alloc, line) {
         Some(
             Answer::Stop {
                 typed,
@@ -253,9 +263,8 @@ pub(crate) fn make_run<
     W: Write,
 >(
     alloc: A,
-    desk: &mut Desk<A, S, T, L, O>,
     input: &mut Input<K>,
-    console: &mut Console<W>,
+    console: &mut Console<Desk<A, S, T, L, O, W>>,
     waiting: &mut Waiting,
     course: &Course,
     run: &mut Run,
@@ -273,13 +282,13 @@ pub(crate) fn make_run<
             Look::Ended => return End::Ended,
             Look::Pressed | Look::Nothing => {}
         }
-        let is_pressed = press(alloc, desk, waiting);
+        let is_pressed = press(alloc, &mut console.writer.inner, waiting);
         let most = if is_pressed {
             course.slice.min(KEY_TURNS)
         } else {
             course.slice
         };
-        let slice = make_slice(alloc, desk, course, most, run);
+        let slice = make_slice(alloc, &mut console.writer.inner, course, most, run);
         let is_idle = matches!(slice, Slice::Idle);
         match slice {
             Slice::Went(has_typed) => is_quiet = !has_typed,

@@ -25,7 +25,7 @@ impl<
 > Seat<A, S, T, L, O, K, W, E> {
     /// Does the lines of a script.
     pub(crate) fn do_script(&mut self, name: &[u8]) {
-        match self.desk.script(self.alloc, name) {
+        match self.console.writer.inner.script(self.alloc, name) {
             None => {}
             Some(Err(error)) => self.refuse_script(name, error),
             Some(Ok(text)) => self.do_lines(name, text.as_slice()),

@@ -30,11 +30,11 @@ pub struct Wish<'a> {
 }
 
 /// The console, and all that stands on it.
-pub(crate) struct Seat<A: Allocator, S: Store, T: Write, L: Write, O: Opening, K, W, E> {
+pub(crate) struct Seat<A: Allocator, S: Store, T: Write, L: Write, O: Opening, K, W: Write, E> {
     pub(crate) alloc: A,
-    pub(crate) desk: Desk<A, S, T, L, O>,
     pub(crate) input: Input<K>,
-    pub(crate) console: Console<W>,
+    /// What it says goes through the desk, which has it among the deeds.
+    pub(crate) console: Console<Desk<A, S, T, L, O, W>>,
     /// For what is said of a script that nobody watches.
     pub(crate) errors: Console<W>,
     pub(crate) host: E,
@@ -70,18 +70,16 @@ impl<
 > Seat<A, S, T, L, O, K, W, E> {
     pub(crate) fn new(
         alloc: A,
-        desk: Desk<A, S, T, L, O>,
         input: Input<K>,
-        (console, errors): (Console<W>, Console<W>),
+        (desk, errors): (Desk<A, S, T, L, O, W>, W),
         host: E,
         wish: &Wish<'_>,
     ) -> Self {
         Seat {
             alloc,
-            desk,
             input,
-            console,
-            errors,
+            console: Console::new(desk),
+            errors: Console::new(errors),
             host,
             waiting: Waiting::new(),
             saved: SavedPacks::new(alloc),
@@ -99,14 +97,13 @@ impl<
     }
 
     /// Leaves it: what is left.
-    pub(crate) fn part(self) -> Parting<A, S, T, L>
-        ensures { (deeds : List (Deed A)) × Dialogue deeds result.is_screen_torn result.is_journal_torn O.opening
-            (scene result.station.panel (S.state result.station.store) (T.contents result.station.screen)
-            (L.contents result.station.journal)) }
+    pub(crate) fn part(self) -> Parting<A, S, T, L, W>
+        ensures { (deeds : List (Deed A)) × Dialogue deeds result.is_screen_torn result.is_journal_torn
+            result.is_console_torn O.opening (scene result.station.panel (S.state result.station.store)
+            (T.contents result.station.screen) (L.contents result.station.journal) (W.contents result.console)) }
     {
         let Seat {
             alloc: _,
-            desk,
             input,
             console,
             errors,
@@ -124,9 +121,9 @@ impl<
             has_refused,
             lacks_script,
         } = self;
-        let console_torn = console.is_torn() || errors.is_torn();
-        desk.part(Ending {
-            is_console_torn: console_torn,
+        let is_console_torn = console.is_torn() || errors.is_torn();
+        console.into_inner().part(Ending {
+            is_console_torn,
             has_read_fault: input.has_failed(),
             has_refused,
             lacks_script,
@@ -135,6 +132,6 @@ impl<
 
     /// Whether no writer has failed.
     pub(crate) fn can_go_on(&self) -> bool {
-        !self.desk.is_torn() && !self.console.is_torn() && !self.errors.is_torn()
+        !self.console.writer.inner.has_torn() && !self.console.is_torn() && !self.errors.is_torn()
     }
 }

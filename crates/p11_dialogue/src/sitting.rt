@@ -66,7 +66,6 @@ impl<
         };
         let end = make_run(
             self.alloc,
-            &mut self.desk,
             &mut self.input,
             &mut self.console,
             &mut self.waiting,
@@ -76,7 +75,7 @@ impl<
         if run.last.is_some() && run.last != Some(b'\n') {
             self.console.say("\n");
         }
-        self.desk.end_run();
+        self.console.writer.inner.end_run();
         match end {
             End::Stopped(reason) => self.say_stop(reason_word(reason), &run),
             End::Escaped => self.say_stop("key", &run),

@@ -35,10 +35,10 @@ impl<A: Allocator + Copy> SavedPacks<A> {
     }
 
     /// A drive was saved: keeps what it holds. Where there is no memory for that, the pack counts as not saved.
-    pub(crate) fn note<S: Store, T: Write, L: Write, O: Opening>(
+    pub(crate) fn note<S: Store, T: Write, L: Write, O: Opening, W: Write>(
         &mut self,
         alloc: A,
-        desk: &mut Desk<A, S, T, L, O>,
+        desk: &mut Desk<A, S, T, L, O, W>,
         drive: u32,
     ) {
         self.forget(drive);
@@ -62,10 +62,10 @@ impl<A: Allocator + Copy> SavedPacks<A> {
     }
 
     /// Whether the pack on a drive, of which sectors were written since it was mounted, is as it was saved.
-    fn has_saved<S: Store, T: Write, L: Write, O: Opening>(
+    fn has_saved<S: Store, T: Write, L: Write, O: Opening, W: Write>(
         &self,
         alloc: A,
-        desk: &mut Desk<A, S, T, L, O>,
+        desk: &mut Desk<A, S, T, L, O, W>,
         drive: u32,
     ) -> bool {
         for saved in self.packs.as_slice() {
@@ -80,10 +80,10 @@ impl<A: Allocator + Copy> SavedPacks<A> {
     }
 
     /// Whether the pack on a drive has sectors that no file has.
-    pub(crate) fn is_unsaved<S: Store, T: Write, L: Write, O: Opening>(
+    pub(crate) fn is_unsaved<S: Store, T: Write, L: Write, O: Opening, W: Write>(
         &self,
         alloc: A,
-        desk: &mut Desk<A, S, T, L, O>,
+        desk: &mut Desk<A, S, T, L, O, W>,
         devices: &Devices,
         drive: u32,
     ) -> bool {

@@ -2,11 +2,11 @@
 ghost use Rattle.std.specs.Prelude.{◌≡◌, List};
 ghost use Rattle.p11_dialogue.specs.Deeds.{Deed, Dialogue, scene};
 
-use crate::console::Console;
-use crate::desk::{Desk, Opening, Parting, Station};
+use crate::desk::{Desk, Opening, Parting};
 use crate::host::Host;
 use crate::keyboard::{Input, Keyboard};
 use crate::seat::{Seat, Wish};
+use crate::station::Station;
 use p11_panel::Store;
 use std::alloc::Allocator;
 use std::io::Write;
@@ -23,8 +23,9 @@ pub struct Person<K, W, E> {
 
 /// Holds a dialogue to its end. All that it does is a list of deeds: lines of the console's language that were tried,
 /// and files of scripts that the store was asked for. The screen has the bytes that the machine typed, in order; the
-/// record the lines that were done, with the turns that were really made. Of a writer that failed or took nothing the
-/// bytes are a front of these, and nothing was done after it.
+/// record the lines that were done, with the turns that were really made; the console the answers to lines, each of
+/// those that the machine gave, and between them what else was said: refusals and runs. Of a writer that failed or took
+/// nothing the bytes are a front of these, and nothing was done after it.
 pub fn converse<
     A: Allocator + Copy,
     S: Store,
@@ -38,11 +39,12 @@ pub fn converse<
     station: Station<A, S, T, L>,
     person: Person<K, W, E>,
     wish: &Wish<'_>,
-) -> Parting<A, S, T, L>
+) -> Parting<A, S, T, L, W>
     ensures { (deeds : List (Deed A)) × Dialogue deeds result.is_screen_torn result.is_journal_torn
-        (scene station.panel (S.state station.store) (T.contents station.screen) (L.contents station.journal))
+        result.is_console_torn (scene station.panel (S.state station.store) (T.contents station.screen)
+        (L.contents station.journal) (W.contents person.console))
         (scene result.station.panel (S.state result.station.store) (T.contents result.station.screen)
-        (L.contents result.station.journal)) }
+        (L.contents result.station.journal) (W.contents result.console)) }
 {
     converse_from::<A, S, T, L, Brand, K, W, E>(alloc, station, person, wish)
 }
@@ -62,12 +64,12 @@ fn converse_from<
     station: Station<A, S, T, L>,
     person: Person<K, W, E>,
     wish: &Wish<'_>,
-) -> Parting<A, S, T, L>
+) -> Parting<A, S, T, L, W>
     requires { scene station.panel (S.state station.store) (T.contents station.screen) (L.contents station.journal)
-        ≡ O.opening }
-    ensures { (deeds : List (Deed A)) × Dialogue deeds result.is_screen_torn result.is_journal_torn O.opening
-        (scene result.station.panel (S.state result.station.store) (T.contents result.station.screen)
-        (L.contents result.station.journal)) }
+        (W.contents person.console) ≡ O.opening }
+    ensures { (deeds : List (Deed A)) × Dialogue deeds result.is_screen_torn result.is_journal_torn
+        result.is_console_torn O.opening (scene result.station.panel (S.state result.station.store)
+        (T.contents result.station.screen) (L.contents result.station.journal) (W.contents result.console)) }
 {
     let Person {
         keyboard,
@@ -75,15 +77,8 @@ fn converse_from<
         errors,
         host,
     } = person;
-    let desk: Desk<A, S, T, L, O> = Desk::new(station);
-    let mut seat = Seat::new(
-        alloc,
-        desk,
-        Input::new(keyboard),
-        (Console::new(console), Console::new(errors)),
-        host,
-        wish,
-    );
+    let desk: Desk<A, S, T, L, O, W> = Desk::new(station, console);
+    let mut seat = Seat::new(alloc, Input::new(keyboard), (desk, errors), host, wish);
     seat.hold(wish.script, wish.is_talk);
     seat.part()
 }

@@ -167,6 +167,7 @@ fn hold_with<L: Ledger, A: Allocator + Copy>(
     };
     let Parting {
         station,
+        console: _,
         is_screen_torn,
         is_journal_torn,
         is_console_torn,

@@ -136,7 +136,7 @@ fn hold<L: Ledger>(rt: &HostRuntime, launch: &Launch<'_>, blank: Blank) -> Resul
 
 /// How the program ends, by what is left of the dialogue.
 fn cause_of<A: Allocator, S: Drop>(
-    parting: Parting<A, S, Output, Record<RecordFile>>,
+    parting: Parting<A, S, Output, Record<RecordFile>, Output>,
     launch: &Launch<'_>,
 ) -> Cause {
     let (is_kept, _) = parting.station.journal.finish();
