@@ -1,2 +1,5 @@
+pub mod AgainLemmas
 pub mod DeskLemmas
+pub mod OutcomeLemmas
+pub mod RecordLemmas
 pub mod Writing
