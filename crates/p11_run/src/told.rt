@@ -24,7 +24,8 @@ pub(crate) struct ToldWriter<W> {
 impl<R: Read> ToldReader<R> {
     /// No read yet.
     pub(crate) fn new(inner: R) -> Self
-        ensures { result.reads.made ≡ [] }
+        ensures inner { R.remaining result.inner ≡ R.remaining inner }
+        ensures reads { result.reads.made ≡ [] }
     {
         let reads = ToldEnds::new();
         ToldReader { inner, reads }
@@ -34,7 +35,8 @@ impl<R: Read> ToldReader<R> {
 impl<W: Write> ToldWriter<W> {
     /// No write yet.
     pub(crate) fn new(inner: W) -> Self
-        ensures { result.writes.made ≡ [] }
+        ensures inner { W.contents result.inner ≡ W.contents inner }
+        ensures writes { result.writes.made ≡ [] }
     {
         let writes = ToldEnds::new();
         ToldWriter { inner, writes }
