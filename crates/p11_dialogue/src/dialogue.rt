@@ -166,7 +166,7 @@ impl<
     }
 
     fn help(&mut self, rest: &[u8]) {
-        match Verb::named(first_word(rest).0) {
+        match Verb::meant(first_word(rest).0) {
             Some(verb) => say_one(&mut self.console, verb),
             None => say_all(&mut self.console),
         }

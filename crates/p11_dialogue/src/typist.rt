@@ -30,6 +30,8 @@ pub(crate) struct Typist<A: Allocator> {
     decoder: Decoder,
     editor: Editor,
     history: History<A>,
+    /// Whether a line has just ended by CR: an LF right behind it, as in a text that is pasted, is no key.
+    has_returned: bool,
 }
 
 impl<A: Allocator> Drop for Typist<A> {
@@ -38,6 +40,7 @@ impl<A: Allocator> Drop for Typist<A> {
             decoder: _,
             editor,
             history,
+            has_returned: _,
         } = self;
     }
 }
@@ -49,6 +52,7 @@ impl<A: Allocator + Copy> Typist<A> {
             decoder: Decoder::new(),
             editor: Editor::new(),
             history: History::new(alloc),
+            has_returned: false,
         }
     }
 
@@ -81,6 +85,7 @@ impl<A: Allocator + Copy> Typist<A> {
     /// Nothing more is pressed for now.
     pub(crate) fn pause(&mut self) {
         self.decoder.pause();
+        self.has_returned = false;
     }
 
     /// Takes a byte of the keyboard, and shows what it leads to.
@@ -91,6 +96,11 @@ impl<A: Allocator + Copy> Typist<A> {
         host: &mut E,
         byte: u8,
     ) -> Edit {
+        let is_end = byte == b'\n' && self.has_returned;
+        self.has_returned = byte == b'\r';
+        if is_end {
+            return Edit::GoOn;
+        }
         match self.decoder.key(byte) {
             Some(key) => self.press(alloc, console, host, key),
             None => Edit::GoOn,

@@ -291,7 +291,7 @@ impl Part {
             Part::Name => word.len() <= 255 && word.iter().all(|byte| is_graphic(*byte)),
             Part::Access => word == b"rw".as_slice() || word == b"ro".as_slice(),
             Part::Text => is_text(word),
-            Part::Topic => Verb::named(word).is_some(),
+            Part::Topic => Verb::meant(word).is_some(),
         }
     }
 }

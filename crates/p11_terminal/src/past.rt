@@ -49,7 +49,7 @@ impl Past {
             return;
         };
         if text.push(b'\n').is_ok() {
-            let _ = file.write(text.as_slice());
+            let _ = file.write_all(text.as_slice());
         }
     }
 }
