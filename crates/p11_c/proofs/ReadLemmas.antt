@@ -1,5 +1,5 @@
 -- What the reads of a script in memory tell.
-use Rattle.std.proofs.Common.{◌≡◌, ◌≤◌, ℕ, List, length, Option, Some, subst}
+use Rattle.std.proofs.Common.{◌≡◌, ◌≤◌, ℕ, List, length, Some, subst}
 use Rattle.std.specs.Io.KnownBytes.{Consumes}
 use Rattle.p11_c.specs.Calls.{TookManyReads}
 

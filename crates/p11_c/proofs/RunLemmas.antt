@@ -1,5 +1,5 @@
 -- A command that asks for a run: it stops, or is refused for the number of its turns.
-use Rattle.std.proofs.Common.{◌≡◌, ℕ, Bool, true, false, Option, Some, None, MatchOption, refl, sym, ap, subst, ◌∙◌, arith, inl, inr}
+use Rattle.std.proofs.Common.{◌≡◌, ℕ, Bool, true, false, Option, Some, None, MatchOption, refl, sym, ap, ◌∙◌, arith, inl, inr}
 use Rattle.p11_lines.specs.declared.answer.Answer.{Answer}
 use Rattle.p11_lines.specs.declared.fault.Fault.{Fault}
 use Rattle.p11_cpu.specs.State.{State}

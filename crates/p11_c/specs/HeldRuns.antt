@@ -51,7 +51,8 @@ pub record MakesRun (A : Type 0) (until_idle : Bool) (n : ℕ) (status : Status)
   pub reason : StopReason
   pub turns : ℕ
   pub pc : ℕ
-  pub stops : CommandStep {A = A} kept.machine (run_command until_idle n) (answers.Stop typed reason turns pc) kept'.machine
+  pub stops : CommandStep {A = A} kept.machine (run_command until_idle n) (answers.Stop typed reason turns pc)
+      kept'.machine
   pub told_is : told ≡ told_run turns reason pc
   pub files_are : kept'.files ≡ kept.files
   pub text_kept : KeepsText status (text_of {A = A} (answers.Stop typed reason turns pc)) kept'.answer

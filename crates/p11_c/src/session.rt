@@ -58,6 +58,7 @@ fn run_script<L: Ledger, M: Ledger>(
 }
 
 /// Does a whole script over a store that has these files.
+#[tactic(auto, unfolding(p11_panel::specs::Session::ScriptDone))]
 fn play_files<L: Ledger>(
     alloc: Global,
     blank: Blank,
