@@ -1,3 +1,2 @@
--- What a dialogue has done: lines tried with their answers, scripts asked for, and bytes typed and said.
+-- What a dialogue has done: lines tried with their answers, scripts asked for, and bytes typed.
 pub mod Deeds
-pub mod Again

@@ -1,5 +1,0 @@
-use Rattle.p11_dialogue.proofs.AgainLemmas.{made_again}
-use Rattle.p11_dialogue.proofs.laws.a_run_is_made_again_by_its_turns.Goals as goal
-
-pub returns : goal.returns
-returns g c = made_again _
