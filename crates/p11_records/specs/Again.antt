@@ -1,0 +1,58 @@
+-- A record does again what was done.
+use Rattle.std.specs.Prelude.{◌≡◌, ◌≢◌, ℕ, ◌+◌, ◌<◌, true, false, List, [], ◌∷◌, All, ⊤}
+use Rattle.std.specs.List.{flat_map}
+use Rattle.p11_lines.specs.declared.answer.Answer.{Answer}
+use Rattle.p11_lines.specs.declared.answer.Answer.TheVariants as answers
+use Rattle.p11_lines.specs.declared.answer.StopReason.{StopReason}
+use Rattle.p11_lines.specs.declared.answer.StopReason.TheVariants as reasons
+use Rattle.p11_lines.specs.declared.fault.Fault.TheVariants.{StoreFault}
+use Rattle.p11_lines.specs.declared.line.Line.{Line}
+use Rattle.p11_lines.specs.declared.line.Line.TheVariants as lines
+use Rattle.p11_cpu.specs.State.{State}
+use Rattle.p11_panel.specs.Calls.Runs.{IsRun, stops_idling}
+use Rattle.p11_panel.specs.Session.{SessionState, Obeys}
+use Rattle.p11_dialogue.specs.Deeds.{Deed, Tried, Ran, Asked, Said, Happen, ended, is_of_run, recorded_of, typed_by, typed_in}
+
+-- A run that made some turns is made again by STEP with just these, whatever line asked for it: it comes to the same
+-- state, and types the same.
+abbrev pub RunsAreMadeAgain : Type 0 → Type 0
+RunsAreMadeAgain A =
+    (line : Line A) (typed : List ℕ) (reason : StopReason) (turns pc : ℕ) (s s' : SessionState)
+    → is_of_run line ≡ true → Obeys line s (answers.Stop typed reason turns pc) s' → 0 < turns
+    → (other : StopReason) × Obeys {A = A} (lines.Step turns) s (answers.Stop typed other turns pc) s'
+
+-- Steps that follow a step which made all its turns are one with it.
+abbrev pub TwoStepsAreOne : Type 0
+TwoStepsAreOne =
+    (n m k : ℕ) (reason : StopReason) (s s' s'' : State)
+    → IsRun (stops_idling false) n s n reasons.Turns s' → IsRun (stops_idling false) m s' k reason s''
+    → IsRun (stops_idling false) (n + m) s (n + k) reason s''
+
+-- one machine, and the same bytes under each name
+abbrev pub Alike : SessionState → SessionState → Type 0
+Alike s t = (t.machine ≡ s.machine) × (t.store.files ≡ s.store.files)
+
+-- lines with their answers, one after another
+unfoldable pub Obey : {A : Type 0} → List (Line A × Answer A) → SessionState → SessionState → Type 0
+Obey [] s s' = s' ≡ s
+Obey (done ∷ others) s s'' = (s' : SessionState) × Obeys done.0 s done.1 s' × Obey others s' s''
+
+-- Two things no record has: what a store leaves under a name whose SAVE it refuses, and bytes typed earlier, which a run
+-- takes that makes no turn.
+pub record IsRepeatable {A : Type 0} (line : Line A) (answer : Answer A) : Type 0 where
+  pub saved : (drive : ℕ) (name : List ℕ) → line ≡ lines.Save drive name → answer ≢ answers.Refused StoreFault
+  pub typed : (typed : List ℕ) (reason : StopReason) (pc : ℕ) → answer ≡ answers.Stop typed reason 0 pc → typed ≡ []
+
+abbrev pub Repeatable : {A : Type 0} → Deed A → Type 0
+Repeatable (Tried line answer) = IsRepeatable line answer
+Repeatable (Ran line answer) = IsRepeatable line answer
+Repeatable (Asked name) = ⊤
+Repeatable (Said text) = ⊤
+
+-- The record of deeds is the text of lines that, over a session that begins alike, type the same bytes and end alike.
+abbrev pub RecordsDoAgain : Type 0 → Type 0
+RecordsDoAgain A =
+    (deeds : List (Deed A)) (s s' t : SessionState) → Happen deeds s s' → All Repeatable deeds → Alike s t
+    → (again : List (Line A × Answer A)) × (t' : SessionState) × Obey again t t' × Alike s' t'
+    × (flat_map (λ done. ended done.0) again ≡ flat_map recorded_of deeds)
+    × (flat_map (λ done. typed_in done.1) again ≡ flat_map typed_by deeds)

@@ -1,0 +1,6 @@
+//! What a record of a dialogue is worth: laws, each a function that does nothing, whose contract is the law.
+#![tactic(auto)]
+
+mod laws;
+
+pub use laws::{a_record_does_it_again, a_run_is_made_again_by_its_turns, two_steps_are_one};
