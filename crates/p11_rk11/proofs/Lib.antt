@@ -6,5 +6,6 @@ pub mod Kept
 pub mod Parts
 pub mod Places
 pub mod Reachable
+pub mod Runs
 pub mod Turns
 pub mod Words

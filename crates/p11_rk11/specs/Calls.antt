@@ -4,3 +4,4 @@ pub mod Due
 pub mod Heads
 pub mod Parts
 pub mod Places
+pub mod Runs

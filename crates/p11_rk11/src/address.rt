@@ -27,6 +27,15 @@ impl BusAddress {
         BusAddress(0)
     }
 
+    /// All 18 bits.
+    pub(crate) fn all(self) -> u32
+        ensures value { result ≡ self }
+        ensures bound { result < 0o1000000 }
+        ensures even { result % 2 ≡ 0 }
+    {
+        self.0
+    }
+
     /// Bits 17:16, 0 to 3.
     pub(crate) fn extension(self) -> u16
         ensures value { result ≡ self / 0o200000 }

@@ -1,5 +1,6 @@
 //! Memory as the controller sees it.
-ghost use Rattle.std.specs.Prelude.{◌≡◌, ℕ, ◌+◌, ◌<◌, ◌≤◌, true};
+ghost use Rattle.std.specs.Prelude.{◌≡◌, ℕ, ◌+◌, ◌/◌, ◌%◌, ◌<◌, ◌≤◌, true, length};
+ghost use Rattle.p11_rk11.specs.Calls.Runs.{run_at, with_run};
 ghost use Rattle.p11_rk11.specs.Memory.{Words, has_word, word_at, stored};
 
 /// Words of memory, as a device reaches them: a list, of which word `k` is at address `2 * k`, and room for a
@@ -26,4 +27,18 @@ pub trait WordMemory {
         requires free { 0 < room self.old }
         ensures words { words self.new ≡ stored (words self.old) pa w }
         ensures room { room self.old ≤ room self.new + 1 };
+
+    /// So many words from an address on, all of which are memory.
+    fn run(&self, pa: u32, count: usize) -> &[u16]
+        requires even { pa % 2 ≡ 0 }
+        requires held { pa / 2 + count ≤ length (words self.now) }
+        ensures { result.now ≡ run_at (words self.now) pa count };
+
+    /// Stores words from an address on, all of which is memory. It uses at most one of the room for each.
+    fn store_run(&mut self, pa: u32, run: &[u16])
+        requires even { pa % 2 ≡ 0 }
+        requires held { pa / 2 + length run.now ≤ length (words self.old) }
+        requires free { length run.now ≤ room self.old }
+        ensures words { words self.new ≡ with_run (words self.old) pa run.now }
+        ensures room { room self.old ≤ room self.new + length run.now };
 }

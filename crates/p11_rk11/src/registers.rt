@@ -185,6 +185,7 @@ impl Registers {
     #[tactic(auto, unfolding(crate::specs::Registers::words_moved))]
     pub(crate) fn words_moved(&self) -> u32
         ensures value { result ≡ words_moved self.now }
+        ensures some { 0 < result }
         ensures bound { result ≤ 256 }
     {
         self.words_left().min(256)
@@ -195,6 +196,7 @@ impl Registers {
         ensures start { result.start ≡ self.now.bus_address }
         ensures stays { result.stays ≡ self.now.inhibit_increment }
         ensures count { result.count ≡ words_moved self.now }
+        ensures some { 0 < result.count }
         ensures bound { result.count ≤ 256 }
     {
         Span {

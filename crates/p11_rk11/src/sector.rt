@@ -1,5 +1,5 @@
 //! The words of one sector: between its bytes and memory.
-ghost use Rattle.std.specs.Prelude.{◌≡◌, ℕ, ◌+◌, ◌<◌, ◌≤◌, length, true, not, nat_eq, take, map, slice_index, []};
+ghost use Rattle.std.specs.Prelude.{◌≡◌, ℕ, ◌+◌, ◌*◌, ◌%◌, ◌<◌, ◌≤◌, length, true, false, not, nat_eq, take, map, slice_index, []};
 ghost use Rattle.std.specs.List.{range_with_len};
 ghost use Rattle.std.specs.Cmp.Lexicographic.{pointwise};
 ghost use Rattle.p11_rk11.specs.Address.{word_address};
@@ -96,8 +96,31 @@ impl Stores {
 }
 
 impl Span {
+    /// Whether the words have one address after another, with none past 777776.
+    fn is_run(&self) -> bool
+        requires { self.now.count ≤ 256 }
+        ensures even { result ≡ true → self.now.start % 2 ≡ 0 }
+        ensures stays { result ≡ true → self.now.stays ≡ false }
+        ensures ends { result ≡ true → self.now.start + 2 * self.now.count ≤ 0o1000000 }
+    {
+        !self.stays && self.start.all() + 2 * self.count <= 0o1000000
+    }
+
     /// Whether every address is memory.
     pub(crate) fn is_held<M: WordMemory>(self, memory: &M) -> bool
+        requires some { 0 < self.count }
+        requires count { self.count ≤ 256 }
+        ensures { result ≡ all_held (word_address self.start self.stays) self.count (M.words memory.now) }
+    {
+        if self.is_run() {
+            memory.holds(self.start.of_word(self.stays, self.count - 1))
+        } else {
+            self.is_each_held(memory)
+        }
+    }
+
+    /// The same, by one address after another.
+    fn is_each_held<M: WordMemory>(self, memory: &M) -> bool
         requires { self.count ≤ 256 }
         ensures { result ≡ all_held (word_address self.start self.stays) self.count (M.words memory.now) }
     {
@@ -111,6 +134,35 @@ impl Span {
 
     /// A sector's words: those of memory, and zeros behind them.
     pub(crate) fn load<M: WordMemory>(self, memory: &M) -> [u16; 256]
+        requires some { 0 < self.count }
+        requires count { self.count ≤ 256 }
+        requires held { all_held (word_address self.start self.stays) self.count (M.words memory.now) ≡ true }
+        ensures { result ≡ sector_from (word_address self.start self.stays) self.count (M.words memory.now) }
+    {
+        if self.is_run() {
+            self.load_run(memory)
+        } else {
+            self.load_each(memory)
+        }
+    }
+
+    /// The same for addresses that are a run.
+    fn load_run<M: WordMemory>(self, memory: &M) -> [u16; 256]
+        requires some { 0 < self.count }
+        requires count { self.count ≤ 256 }
+        requires held { all_held (word_address self.start self.stays) self.count (M.words memory.now) ≡ true }
+        requires stays { self.stays ≡ false }
+        requires ends { self.start + 2 * self.count ≤ 0o1000000 }
+        ensures { result ≡ sector_from (word_address self.start self.stays) self.count (M.words memory.now) }
+    {
+        let count = self.count as usize;
+        let mut words = [0; 256];
+        words[..count].copy_from_slice(memory.run(self.start.all(), count));
+        words
+    }
+
+    /// The same, one word after another.
+    fn load_each<M: WordMemory>(self, memory: &M) -> [u16; 256]
         requires count { self.count ≤ 256 }
         requires held { all_held (word_address self.start self.stays) self.count (M.words memory.now) ≡ true }
         ensures { result ≡ sector_from (word_address self.start self.stays) self.count (M.words memory.now) }
@@ -124,6 +176,7 @@ impl Span {
 
     /// Whether memory's words are other than a sector's first words.
     pub(crate) fn differs<M: WordMemory>(self, memory: &M, words: &[u16; 256]) -> bool
+        requires some { 0 < self.count }
         requires count { self.count ≤ 256 }
         requires held { all_held (word_address self.start self.stays) self.count (M.words memory.now) ≡ true }
         ensures { result ≡ not (pointwise nat_eq
@@ -137,6 +190,38 @@ impl Span {
 
     /// Stores a sector's first words.
     pub(crate) fn store<M: WordMemory>(self, memory: &mut M, words: &[u16; 256])
+        requires some { 0 < self.count }
+        requires count { self.count ≤ 256 }
+        requires held { all_held (word_address self.start self.stays) self.count (M.words memory.old) ≡ true }
+        requires room { self.count ≤ M.room memory.old }
+        ensures words { M.words memory.new
+            ≡ all_stored (word_address self.start self.stays) words.now self.count (M.words memory.old) }
+        ensures room { M.room memory.old ≤ M.room memory.new + self.count }
+    {
+        if self.is_run() {
+            self.store_run(memory, words);
+        } else {
+            self.store_each(memory, words);
+        }
+    }
+
+    /// The same for addresses that are a run.
+    fn store_run<M: WordMemory>(self, memory: &mut M, words: &[u16; 256])
+        requires some { 0 < self.count }
+        requires count { self.count ≤ 256 }
+        requires held { all_held (word_address self.start self.stays) self.count (M.words memory.old) ≡ true }
+        requires room { self.count ≤ M.room memory.old }
+        requires stays { self.stays ≡ false }
+        requires ends { self.start + 2 * self.count ≤ 0o1000000 }
+        ensures words { M.words memory.new
+            ≡ all_stored (word_address self.start self.stays) words.now self.count (M.words memory.old) }
+        ensures room { M.room memory.old ≤ M.room memory.new + self.count }
+    {
+        memory.store_run(self.start.all(), &words[..self.count as usize]);
+    }
+
+    /// The same, one word after another.
+    fn store_each<M: WordMemory>(self, memory: &mut M, words: &[u16; 256])
         requires count { self.count ≤ 256 }
         requires held { all_held (word_address self.start self.stays) self.count (M.words memory.old) ≡ true }
         requires room { self.count ≤ M.room memory.old }

@@ -1,12 +1,12 @@
 -- What has been read of a tape.
-use Rattle.std.proofs.Common.{◌≡◌, ℕ, zero, suc, ◌<◌, ◌≤◌, ◌+◌, ◌-◌, List, [], ◌∷◌, ◌++◌, length, take, drop, replicate, get_or, add-zero, Option, Some, None, Ok, Err, Result, Bool, true, false, cond, eqb, eq-eqb, refl, sym, ap, arith, ◌∙◌}
+use Rattle.std.proofs.Common.{◌≡◌, ℕ, zero, suc, ◌<◌, ◌≤◌, ◌+◌, ◌-◌, List, [], ◌∷◌, ◌++◌, length, take, drop, replicate, get_or, set, add-zero, Option, Some, None, Ok, Err, Result, Bool, true, false, cond, eqb, eq-eqb, refl, sym, ap, arith, ◌∙◌}
 use Rattle.std.specs.List.{enumerate_from}
 use Rattle.std.proofs.lemmas.Bool.{ne_eqb}
-use Rattle.std.proofs.lemmas.List.{append_assoc, append-nil, length-append, length-drop, length-replicate, length-take-le, take_more}
+use Rattle.std.proofs.lemmas.List.{append_assoc, append-nil, length-append, length-drop, length-replicate, length-take-le, take_more, take_more_set}
 use Rattle.p11_tape.specs.declared.fault.TapeFault.{TapeFault}
 use Rattle.p11_tape.specs.Fault.{wrong_of, count_at, address_at}
 use Rattle.p11_tape.specs.Reading.{Meaning, reading, read_on, block_read, and_then, end_with, placed_at, start_of}
-use Rattle.p11_tape.specs.Calls.Begins.{NoZeroFirst, BeginsWith, BeginsWithZeros, IsWhole}
+use Rattle.p11_tape.specs.Calls.Begins.{NoZeroFirst, BeginsWith, BeginsWithZeros}
 
 pub same_meaning : (p q : List (ℕ × ℕ)) (s t : Option ℕ) → p ≡ q → s ≡ t → ◌≡◌ {A = Result Meaning TapeFault} (Ok (record { placed = p; start = s })) (Ok (record { placed = q; start = t }))
 same_meaning p q s t e f = cc
@@ -144,3 +144,9 @@ pub enumerate_more : (n : ℕ) (xs : List ℕ) (i : ℕ) → i < length xs → e
 enumerate_more n xs i h =
     let len : length (take i xs) ≡ i = length-take-le i xs (omega arith) in
     ap (enumerate_from n) (take_more xs i 0 h) ∙ enumerate_push n (take i xs) (get_or xs i 0) ∙ ap (λ m. enumerate_from n (take i xs) ++ (n + m, get_or xs i 0) ∷ []) len
+
+-- one more byte in its place, with its address
+pub pairs_more : (address i : ℕ) (bytes : List ℕ) (places : List (ℕ × ℕ)) → i < length bytes → length places ≡ length bytes → take i places ≡ enumerate_from address (take i bytes) → take (i + 1) (set places i (address + i, get_or bytes i 0)) ≡ enumerate_from address (take (i + 1) bytes)
+pairs_more address i bytes places within room before =
+    take_more_set places i (address + i, get_or bytes i 0) (omega (arith, room))
+    ∙ ap (λ (l : List (ℕ × ℕ)). l ++ (address + i, get_or bytes i 0) ∷ []) before ∙ sym (enumerate_more address bytes i within)

@@ -49,7 +49,6 @@ fn check(tape: &[u8]) -> Result<usize, TapeFault>
 }
 
 /// Puts the data of a block, each byte with its address, behind the others.
-#[tactic(auto, using(crate::proofs::ReadLemmas::enumerate_more, std::proofs::lemmas::List::append_assoc))]
 fn place<A: Allocator>(
     placed: &mut Vec<(u16, u8), A>,
     address: u16,
@@ -58,10 +57,21 @@ fn place<A: Allocator>(
     requires { address + length bytes.now ≤ 65536 }
     ensures { OnOk result (placed.new.items ≡ placed.old.items ++ enumerate_from address bytes.now) }
 {
-    for (i, byte) in bytes.iter().enumerate() {
-        placed.push((address + i as u16, *byte))?;
-    }
+    let before = placed.len();
+    placed.resize(before + bytes.len(), (0, 0))?;
+    put_pairs(&mut placed[before..], address, bytes);
     Ok(())
+}
+
+/// Puts bytes, each with its address, into as many places.
+fn put_pairs(places: &mut [(u16, u8)], address: u16, bytes: &[u8])
+    requires places { length places.old ≡ length bytes.now }
+    requires addresses { address + length bytes.now ≤ 65536 }
+    ensures { places.new ≡ enumerate_from address bytes.now }
+{
+    for (i, byte) in bytes.iter().enumerate() {
+        places[i] = (address + i as u16, *byte);
+    }
 }
 
 /// Puts the data of a whole tape into an empty list, and answers its start address.

@@ -1,16 +1,8 @@
-use Rattle.std.proofs.Common.{refl, sym, ◌∙◌}
-use Rattle.p11_rk11.specs.Memory.{all_held}
-use Rattle.p11_rk11.proofs.Words.{held_more, not_held}
+use Rattle.std.proofs.Common.{◌∙◌}
+use Rattle.p11_rk11.proofs.Runs.{last_held}
 use Rattle.p11_rk11.proofs.sector.Span.is_held.Goals as goal
 
-pub loop-k-init : goal.loop-k-init
-unfolding all_held
-loop-k-init g c = refl
-
-pub returns-then-not-holds : goal.returns-then-not-holds
-returns-then-not-holds g c =
-    not_held _ _ _ c.loop-k.k _ c.of_word.ensures c.loop-k-test.true (sym c.holds.ensures ∙ c.if-not-holds.true)
-
-pub loop-k-preserved : goal.loop-k-preserved
-loop-k-preserved g c =
-    held_more _ _ c.loop-k.k _ c.of_word.ensures c.loop-k.invariant (sym c.holds.ensures ∙ c.if-not-holds.false)
+pub returns-then-is_run : goal.returns-then-is_run
+returns-then-is_run g c =
+    c.holds.ensures
+    ∙ last_held c.args.self.start c.args.self.count _ c.args.self.stays _ (c.is_run.ensures.stays c.if-is_run.true) (c.is_run.ensures.even c.if-is_run.true) c.requires.some (c.is_run.ensures.ends c.if-is_run.true) c.of_word.ensures

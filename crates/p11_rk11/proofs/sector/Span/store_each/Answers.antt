@@ -1,7 +1,7 @@
 use Rattle.std.proofs.Common.{refl, arith}
 use Rattle.p11_rk11.specs.Memory.{all_stored}
 use Rattle.p11_rk11.proofs.Words.{held_at, all_stored_held, stored_more}
-use Rattle.p11_rk11.proofs.sector.Span.store.Goals as goal
+use Rattle.p11_rk11.proofs.sector.Span.store_each.Goals as goal
 
 pub loop-k-init : goal.loop-k-init
 unfolding all_stored

@@ -1,6 +1,6 @@
 use Rattle.std.proofs.Common.{arith}
 use Rattle.p11_rk11.proofs.Words.{held_at, loaded_none, loaded_more}
-use Rattle.p11_rk11.proofs.sector.Span.load.Goals as goal
+use Rattle.p11_rk11.proofs.sector.Span.load_each.Goals as goal
 
 pub loop-k-init : goal.loop-k-init
 loop-k-init g c = loaded_none _ _
