@@ -1,22 +1,34 @@
 -- One more deed.
-use Rattle.std.proofs.Common.{◌≡◌, ℕ, Bool, true, false, not, ◌||◌, List, [], ◌∷◌, ◌++◌, take, Option, Result, Ok, Err, IfOk, IfErr, inl, inr, refl, sym, ap, subst, ◌∙◌, append_assoc, append-nil}
+use Rattle.std.proofs.Common.{◌≡◌, ◌≢◌, ℕ, Bool, true, false, not, ◌||◌, if◌then◌else◌, List, [], ◌∷◌, ◌++◌, length, take, drop, Option, Some, None, IfSome, Result, Ok, Err, IfOk, IfErr, inl, inr, refl, sym, ap, subst, ◌∙◌, append_assoc, append-nil, ◌==◌, arith}
 use Rattle.std.specs.Bool.{MatchBool}
 use Rattle.std.specs.List.{flat_map}
 use Rattle.std.specs.Result.{is_err}
+use Rattle.std.specs.Io.{StartsWith}
 use Rattle.std.specs.Io.KnownBytes.{Appends, Keeps, WriteAppends}
-use Rattle.std.proofs.KnownBytes.{Appends-nil, Appends-trans, Appends-kept}
+use Rattle.std.proofs.KnownBytes.{Appends-nil, Appends-trans, Appends-kept, starts_with_rest}
+use Rattle.std.proofs.lemmas.Bool.Decides.{nat_tests}
+use Rattle.std.proofs.lemmas.List.Elements.{All-append, All-nil, All-push}
+use Rattle.p11_lines.specs.Grammar.{line_from}
 use Rattle.p11_lines.specs.declared.answer.Answer.{Answer}
 use Rattle.p11_lines.specs.declared.line.Line.{Line}
+use Rattle.p11_panel.specs.Script.{without_cr}
 use Rattle.p11_panel.specs.Session.{SessionState, Obeys}
 use Rattle.p11_store.specs.declared.store.StoreError.{StoreError}
 use Rattle.p11_store.specs.Store.{StoreState, Fetches, FailsToFetch}
-use Rattle.p11_dialogue.specs.Deeds.{Deed, Tried, Ran, Asked, Said, AsksFor, Happens, Happen, Fronts, WrittenUnless, Scene, Dialogue, is_of_run, recorded, recorded_of, said_by, told_text, typed_by, typed_in}
+use Rattle.p11_lines.specs.declared.line.Line.TheVariants as lines
+use Rattle.p11_dialogue.specs.Deeds.{Use, ForLine, ForLastLine, ForKeyLine, ForKeys, ForProgram, ForNothing, Deed, Tried, Ran, Asked, Said, Took, Escaped, Began, AsksFor, Happens, Happen, Fronts, WrittenUnless, Scene, Dialogue, KeyboardState, Takes, Given, Leave, Leaves, Fits, HasNoLf, Suits, is_done, is_of_run, keys_by, pressed_by, recorded, recorded_of, said_by, taken_by, told_text, typed_by, typed_in}
+use Rattle.p11_dialogue.specs.Calls.{bytes_of, takes_turns, up_to}
+use Rattle.p11_dialogue.specs.declared.keyboard.Press.{Press}
+use Rattle.p11_dialogue.specs.declared.keyboard.Press.TheVariants as presses
+use Rattle.p11_dialogue.specs.declared.keyboard.Stop.{Stop}
+use Rattle.p11_dialogue.specs.declared.keyboard.Stop.TheVariants as stops
+use Rattle.p11_dialogue.proofs.KeyboardLemmas.{Taken, Taken_by, Takes_joined, Takes_none, Takes_more, Takes_kept, Takes_split}
 use Rattle.p11_dialogue.proofs.Writing.{Fronts_all, Fronts_kept}
 
--- some deeds lead to a scene
-abbrev pub Leads : Type 0 → Bool → Bool → Bool → Scene → Scene → Type 0
-Leads A screen_torn journal_torn console_torn opening now =
-    (deeds : List (Deed A)) × Dialogue deeds screen_torn journal_torn console_torn opening now
+-- some deeds lead to a scene, with these keys that wait, this text under way, and this left of the keyboard
+abbrev pub Leads : Type 0 → Bool → Bool → Bool → Scene → Scene → List ℕ → Option (List ℕ) → KeyboardState → KeyboardState → Type 0
+Leads A screen_torn journal_torn console_torn opening now waiting way first left =
+    (deeds : List (Deed A)) × Dialogue deeds screen_torn journal_torn console_torn opening now × Given deeds waiting way first left
 
 one_more : {A : Type 0} (deeds : List (Deed A)) (deed : Deed A) (s s' s'' : SessionState) → Happen deeds s s' → Happens deed s' s'' → Happen (deeds ++ deed ∷ []) s s''
 unfolding Happen
@@ -65,8 +77,44 @@ fresh true is_whole b c text e all front = cc
 fresh false true b c text e all front = all refl
 fresh false false b c text e all front = front refl
 
-more : {A : Type 0} (deed : Deed A) (st jt ct st' jt' ct' : Bool) (opening old new : Scene) → Leads A st jt ct opening old → Happens deed old.session new.session → Grows st st' old.screen new.screen (typed_by deed) → Grows jt jt' old.journal new.journal (recorded_of deed) → Grows ct ct' old.console new.console (said_by deed) → Leads A st' jt' ct' opening new
-more {A} deed st jt ct st' jt' ct' opening old new so_far does shown kept said =
+-- what a deed takes of the keyboard, and which keys it presses
+record Moves {A : Type 0} (deed : Deed A) (waiting waiting' : List ℕ) (way way' : Option (List ℕ)) (left left' : KeyboardState) : Type 0 where
+  takes : Takes left left' (taken_by deed)
+  fits : Fits left.is_terminal deed
+  presses : waiting ++ keys_by deed ≡ pressed_by deed ++ waiting'
+  leaves : Leaves deed way way'
+
+leave_more : {A : Type 0} (deeds : List (Deed A)) (deed : Deed A) (a b c : Option (List ℕ)) → Leave deeds a b → Leaves deed b c → Leave (deeds ++ deed ∷ []) a c
+unfolding Leave
+leave_more [] deed a b c so_far next = (c, subst (λ (t : Option (List ℕ)). Leaves deed t c) so_far next, refl)
+leave_more (first ∷ deeds) deed a b c so_far next = (so_far.0, so_far.1, leave_more deeds deed so_far.0 b c so_far.2 next)
+
+given_more : {A : Type 0} (deeds : List (Deed A)) (deed : Deed A) (waiting waiting' : List ℕ) (way way' : Option (List ℕ)) (first left left' : KeyboardState) → Given deeds waiting way first left → Moves deed waiting waiting' way way' left left' → Given (deeds ++ deed ∷ []) waiting' way' first left'
+given_more deeds deed waiting waiting' way way' first left left' so_far next =
+    record {
+      taken = subst (λ (t : List ℕ). Takes first left' t) (sym (flat_map_more taken_by deeds deed))
+          (Takes_more first left left' (flat_map taken_by deeds) (taken_by deed) so_far.taken next.takes);
+      suited = All-push (Fits first.is_terminal) deeds deed so_far.suited
+          (subst (λ (b : Bool). Fits b deed) so_far.taken.same next.fits);
+      tried = leave_more deeds deed None way way' so_far.tried next.leaves;
+      pressed = flat_map_more keys_by deeds deed ∙ ap (λ (t : List ℕ). t ++ keys_by deed) so_far.pressed
+          ∙ append_assoc (flat_map pressed_by deeds) waiting (keys_by deed) ∙ ap (λ (t : List ℕ). flat_map pressed_by deeds ++ t) next.presses
+          ∙ sym (append_assoc (flat_map pressed_by deeds) (pressed_by deed) waiting')
+          ∙ ap (λ (t : List ℕ). t ++ waiting') (sym (flat_map_more pressed_by deeds deed));
+    }
+
+-- a deed that has to do with no keys
+no_keys : {A : Type 0} (deed : Deed A) (waiting : List ℕ) (way way' : Option (List ℕ)) (left : KeyboardState) → taken_by deed ≡ [] → Fits left.is_terminal deed → keys_by deed ≡ [] → pressed_by deed ≡ [] → Leaves deed way way' → Moves deed waiting waiting way way' left left
+no_keys deed waiting way way' left takes fits keys presses leaves =
+    record {
+      takes = subst (λ (t : List ℕ). Takes left left t) (sym takes) (Takes_none left);
+      fits = fits;
+      presses = ap (λ (t : List ℕ). waiting ++ t) keys ∙ append-nil waiting ∙ ap (λ (t : List ℕ). t ++ waiting) (sym presses);
+      leaves = leaves;
+    }
+
+more : {A : Type 0} (deed : Deed A) (st jt ct st' jt' ct' : Bool) (opening old new : Scene) (waiting waiting' : List ℕ) (way way' : Option (List ℕ)) (first left left' : KeyboardState) → Leads A st jt ct opening old waiting way first left → Happens deed old.session new.session → Grows st st' old.screen new.screen (typed_by deed) → Grows jt jt' old.journal new.journal (recorded_of deed) → Grows ct ct' old.console new.console (said_by deed) → Moves deed waiting waiting' way way' left left' → Leads A st' jt' ct' opening new waiting' way' first left'
+more {A} deed st jt ct st' jt' ct' opening old new waiting waiting' way way' first left left' so_far does shown kept said moves =
     let deeds : List (Deed A) = so_far.0 in
     let d : Dialogue deeds st jt ct opening old = so_far.1 in (
       deeds ++ deed ∷ [],
@@ -76,6 +124,7 @@ more {A} deed st jt ct st' jt' ct' opening old new so_far does shown kept said =
         kept = grown_by recorded_of deeds deed jt jt' opening.journal old.journal new.journal d.kept kept;
         said = grown_by said_by deeds deed ct ct' opening.console old.console new.console d.said said;
       },
+      given_more deeds deed waiting waiting' way way' first left left' so_far.2 moves,
     )
 
 or_first : (a b : Bool) → (a || b) ≡ false → a ≡ false
@@ -95,30 +144,229 @@ pub record Attempted {A : Type 0} (line : Line A) (answer : Answer A) (is_shown 
   pub kept_front : is_kept ≡ false → Fronts old.journal new.journal (recorded line answer)
 
 -- a line whose answer is told
-pub tried : {A : Type 0} (line : Line A) (answer : Answer A) (st jt ct is_shown is_kept is_said : Bool) (opening old new : Scene) → (st || (jt || ct)) ≡ false → Leads A st jt ct opening old → Attempted line answer is_shown is_kept old new → (is_said ≡ true → Appends old.console new.console (told_text answer)) → (is_said ≡ false → Fronts old.console new.console (told_text answer)) → Leads A (not is_shown) (not is_kept) (not is_said) opening new
-unfolding Happens typed_by recorded_of said_by
-tried line answer st jt ct is_shown is_kept is_said opening old new whole so_far a said said_front =
+pub tried : {A : Type 0} (line : Line A) (answer : Answer A) (st jt ct is_shown is_kept is_said : Bool) (opening old new : Scene) (waiting text : List ℕ) (is : Bool) (first left : KeyboardState) → is ≡ true → line_from text ≡ Some line → (st || (jt || ct)) ≡ false → Leads A st jt ct opening old waiting (if is then Some text else None) first left → Attempted line answer is_shown is_kept old new → (is_said ≡ true → Appends old.console new.console (told_text answer)) → (is_said ≡ false → Fronts old.console new.console (told_text answer)) → Leads A (not is_shown) (not is_kept) (not is_said) opening new waiting None first left
+unfolding Happens typed_by recorded_of said_by taken_by keys_by pressed_by Fits Leaves
+tried line answer st jt ct is_shown is_kept is_said opening old new waiting text false first left e reads whole so_far a said said_front = cc
+tried line answer st jt ct is_shown is_kept is_said opening old new waiting text true first left e reads whole so_far a said said_front =
     let others : (jt || ct) ≡ false = or_second st (jt || ct) whole in
-    more (Tried line answer) st jt ct (not is_shown) (not is_kept) (not is_said) opening old new so_far a.does
+    more (Tried line answer) st jt ct (not is_shown) (not is_kept) (not is_said) opening old new waiting waiting (Some text) None first left left so_far a.does
     (fresh st is_shown old.screen new.screen (typed_in answer) (or_first st (jt || ct) whole) a.shown a.shown_front)
     (fresh jt is_kept old.journal new.journal (recorded line answer) (or_first jt ct others) a.kept a.kept_front)
     (fresh ct is_said old.console new.console (told_text answer) (or_second jt ct others) said said_front)
+    (no_keys (Tried line answer) waiting (Some text) None left refl tt refl refl (reads, refl))
 
 -- a line of a run
-pub ran : {A : Type 0} (line : Line A) (answer : Answer A) (st jt ct is_shown is_kept : Bool) (opening old new : Scene) → (st || jt) ≡ false → Leads A st jt ct opening old → is_of_run line ≡ true → Attempted line answer is_shown is_kept old new → new.console ≡ old.console → Leads A (not is_shown) (not is_kept) ct opening new
+run_more : {A : Type 0} (line : Line A) (answer : Answer A) (st jt ct is_shown is_kept : Bool) (opening old new : Scene) (waiting waiting' : List ℕ) (way : Option (List ℕ)) (first left : KeyboardState) → (st || jt) ≡ false → Leads A st jt ct opening old waiting way first left → is_of_run line ≡ true → Attempted line answer is_shown is_kept old new → new.console ≡ old.console → Moves (Ran line answer) waiting waiting' way way left left → Leads A (not is_shown) (not is_kept) ct opening new waiting' way first left
 unfolding Happens typed_by recorded_of said_by
-ran line answer st jt ct is_shown is_kept opening old new whole so_far of_run a console =
-    more (Ran line answer) st jt ct (not is_shown) (not is_kept) ct opening old new so_far (a.does, of_run)
+run_more line answer st jt ct is_shown is_kept opening old new waiting waiting' way first left whole so_far of_run a console moves =
+    more (Ran line answer) st jt ct (not is_shown) (not is_kept) ct opening old new waiting waiting' way way first left left so_far (a.does, of_run)
     (fresh st is_shown old.screen new.screen (typed_in answer) (or_first st jt whole) a.shown a.shown_front)
     (fresh jt is_kept old.journal new.journal (recorded line answer) (or_second st jt whole) a.kept a.kept_front)
-    (still ct old.console new.console console)
+    (still ct old.console new.console console) moves
+
+of_turns : {A : Type 0} (line : Line A) → takes_turns line ≡ true → is_of_run line ≡ true
+of_turns (lines.Step turns) e = refl
+of_turns (lines.Continue turns) e = refl
+of_turns (lines.Key text) e = refl
+of_turns line e = e
+
+turn_keys : {A : Type 0} (line : Line A) (answer : Answer A) → takes_turns line ≡ true → pressed_by (Ran line answer) ≡ []
+unfolding pressed_by
+turn_keys (lines.Key text) answer e = cc
+turn_keys line answer e = refl
+
+turn_moves : {A : Type 0} (line : Line A) (answer : Answer A) (waiting : List ℕ) (way : Option (List ℕ)) (left : KeyboardState) → takes_turns line ≡ true → Moves (Ran line answer) waiting waiting way way left left
+unfolding taken_by keys_by Fits Leaves
+turn_moves line answer waiting way left e = no_keys (Ran line answer) waiting way way left refl tt refl (turn_keys line answer e) refl
+
+-- turns
+pub ran : {A : Type 0} (line : Line A) (answer : Answer A) (st jt ct is_shown is_kept : Bool) (opening old new : Scene) (waiting : List ℕ) (way : Option (List ℕ)) (first left : KeyboardState) → (st || jt) ≡ false → Leads A st jt ct opening old waiting way first left → takes_turns line ≡ true → Attempted line answer is_shown is_kept old new → new.console ≡ old.console → Leads A (not is_shown) (not is_kept) ct opening new waiting way first left
+ran line answer st jt ct is_shown is_kept opening old new waiting way first left whole so_far turns a console =
+    run_more line answer st jt ct is_shown is_kept opening old new waiting waiting way first left whole so_far (of_turns line turns) a console (turn_moves line answer waiting way left turns)
+
+-- the keys that are pressed wait no longer
+key_moves : {A : Type 0} (text : List ℕ) (answer : Answer A) (waiting waiting' : List ℕ) (way : Option (List ℕ)) (count : ℕ) (left : KeyboardState) (done : Bool) → is_done answer ≡ done → count ≡ (if done then length text else 0) → StartsWith waiting text → waiting' ≡ drop count waiting → Moves (Ran (lines.Key text) answer) waiting waiting' way way left left
+unfolding taken_by keys_by pressed_by Fits Leaves
+key_moves text answer waiting waiting' way count left true e n front rest =
+    record {
+      takes = Takes_none left;
+      fits = tt;
+      leaves = refl;
+      presses = append-nil waiting ∙ starts_with_rest waiting text front
+          ∙ ap (λ (t : List ℕ). text ++ t) (sym (rest ∙ ap (λ (m : ℕ). drop m waiting) n))
+          ∙ ap (λ (b : Bool). (if b then text else []) ++ waiting') (sym e);
+    }
+key_moves text answer waiting waiting' way count left false e n front rest =
+    record {
+      takes = Takes_none left;
+      fits = tt;
+      leaves = refl;
+      presses = append-nil waiting ∙ sym (rest ∙ ap (λ (m : ℕ). drop m waiting) n)
+          ∙ ap (λ (b : Bool). (if b then text else []) ++ waiting') (sym e);
+    }
+
+-- keys
+pub pressed : {A : Type 0} (text : List ℕ) (answer : Answer A) (st jt ct is_shown is_kept : Bool) (opening old new : Scene) (waiting waiting' : List ℕ) (way : Option (List ℕ)) (first left : KeyboardState) (count : ℕ) → (st || jt) ≡ false → Leads A st jt ct opening old waiting way first left → Attempted (lines.Key text) answer is_shown is_kept old new → new.console ≡ old.console → count ≡ (if is_done answer then length text else 0) → StartsWith waiting text → waiting' ≡ drop count waiting → Leads A (not is_shown) (not is_kept) ct opening new waiting' way first left
+pressed text answer st jt ct is_shown is_kept opening old new waiting waiting' way first left count whole so_far a console n front rest =
+    run_more (lines.Key text) answer st jt ct is_shown is_kept opening old new waiting waiting' way first left whole so_far refl a console
+    (key_moves text answer waiting waiting' way count left (is_done answer) refl n front rest)
+
+pub pressed_count : {A : Type 0} (text front : List ℕ) (answer : Answer A) (count : ℕ) (done : Bool) → text ≡ front → done ≡ is_done answer → count ≡ (if done then length front else 0) → count ≡ (if is_done answer then length text else 0)
+pressed_count text front answer count done same d n =
+    n ∙ ap (λ (b : Bool). if b then length front else 0) d ∙ ap (λ (t : List ℕ). if is_done answer then length t else 0) (sym same)
+
+pub pressed_first : (waiting text front : List ℕ) → text ≡ front → StartsWith waiting front → StartsWith waiting text
+pressed_first waiting text front same first = subst (λ (t : List ℕ). StartsWith waiting t) (sym same) first
+
+-- WHAT IS TAKEN
+
+-- a deed that is none of the machine's or of the console's
+aside : {A : Type 0} (deed : Deed A) (st jt ct : Bool) (opening now : Scene) (waiting waiting' : List ℕ) (way way' : Option (List ℕ)) (first left left' : KeyboardState) → Leads A st jt ct opening now waiting way first left → Happens deed now.session now.session → typed_by deed ≡ [] → recorded_of deed ≡ [] → said_by deed ≡ [] → Moves deed waiting waiting' way way' left left' → Leads A st jt ct opening now waiting' way' first left'
+aside deed st jt ct opening now waiting waiting' way way' first left left' so_far does typed kept said moves =
+    more deed st jt ct st jt ct opening now now waiting waiting' way way' first left left' so_far does
+    (subst (λ (t : List ℕ). Grows st st now.screen now.screen t) (sym typed) (still st now.screen now.screen refl))
+    (subst (λ (t : List ℕ). Grows jt jt now.journal now.journal t) (sym kept) (still jt now.journal now.journal refl))
+    (subst (λ (t : List ℕ). Grows ct ct now.console now.console t) (sym said) (still ct now.console now.console refl))
+    moves
+
+-- a text is taken
+took : {A : Type 0} (kind : Use) (text : List ℕ) (st jt ct : Bool) (opening now : Scene) (waiting waiting' : List ℕ) (way way' : Option (List ℕ)) (first left left' : KeyboardState) → Leads A st jt ct opening now waiting way first left → Takes left left' (taken_by {A = A} (Took kind text)) → Suits left.is_terminal kind text → waiting' ≡ waiting ++ keys_by {A = A} (Took kind text) → Leaves {A = A} (Took kind text) way way' → Leads A st jt ct opening now waiting' way' first left'
+unfolding Happens typed_by recorded_of said_by pressed_by Fits
+took kind text st jt ct opening now waiting waiting' way way' first left left' so_far takes suits keys leaves =
+    aside (Took kind text) st jt ct opening now waiting waiting' way way' first left left' so_far refl refl refl refl
+    (record { takes = takes; fits = suits; presses = sym keys; leaves = leaves })
+
+true_or_false : (b : Bool) → b ≡ true → b ≡ false → ⊥
+true_or_false true e f = cc
+true_or_false false e f = cc
+
+-- a key for the machine, of a person's
+pub took_key : {A : Type 0} (key : ℕ) (st jt ct : Bool) (opening now : Scene) (waiting waiting' : List ℕ) (way : Option (List ℕ)) (first left left' : KeyboardState) → Leads A st jt ct opening now waiting way first left → Takes left left' (key ∷ []) → left.is_terminal ≡ true → waiting' ≡ waiting ++ key ∷ [] → Leads A st jt ct opening now waiting' way first left'
+unfolding taken_by keys_by Leaves
+took_key key st jt ct opening now waiting waiting' way first left left' so_far takes person keys =
+    took ForKeys (key ∷ []) st jt ct opening now waiting waiting' way way first left left' so_far takes (λ e. absurd (true_or_false left.is_terminal person e)) keys refl
+
+-- a key for the program
+pub took_own : {A : Type 0} (key : ℕ) (st jt ct : Bool) (opening now : Scene) (waiting : List ℕ) (way : Option (List ℕ)) (first left left' : KeyboardState) → Leads A st jt ct opening now waiting way first left → Takes left left' (key ∷ []) → left.is_terminal ≡ true → Leads A st jt ct opening now waiting way first left'
+unfolding taken_by keys_by Leaves
+took_own key st jt ct opening now waiting way first left left' so_far takes person =
+    took ForProgram (key ∷ []) st jt ct opening now waiting waiting way way first left left' so_far takes person (sym (append-nil waiting)) refl
+
+-- a key for nobody
+pub took_lost : {A : Type 0} (key : ℕ) (st jt ct : Bool) (opening now : Scene) (waiting : List ℕ) (way : Option (List ℕ)) (first left left' : KeyboardState) → Leads A st jt ct opening now waiting way first left → Takes left left' (key ∷ []) → Leads A st jt ct opening now waiting way first left'
+unfolding taken_by keys_by Leaves
+took_lost key st jt ct opening now waiting way first left left' so_far takes =
+    took ForNothing (key ∷ []) st jt ct opening now waiting waiting way way first left left' so_far takes tt (sym (append-nil waiting)) refl
+
+-- a line for the machine
+pub took_key_line : {A : Type 0} (text : List ℕ) (st jt ct : Bool) (opening now : Scene) (waiting waiting' : List ℕ) (way : Option (List ℕ)) (first left left' : KeyboardState) → Leads A st jt ct opening now waiting way first left → Takes left left' (text ++ 10 ∷ []) → left.is_terminal ≡ false → HasNoLf text → waiting ≡ [] → waiting' ≡ without_cr text ++ 13 ∷ [] → Leads A st jt ct opening now waiting' way first left'
+unfolding taken_by keys_by Leaves
+took_key_line text st jt ct opening now waiting waiting' way first left left' so_far takes nobody line none keys =
+    took ForKeyLine text st jt ct opening now waiting waiting' way way first left left' so_far takes (nobody, line)
+    (keys ∙ ap (λ (t : List ℕ). t ++ (without_cr text ++ 13 ∷ [])) (sym none)) refl
+
+-- a part of one
+pub took_keys : {A : Type 0} (text : List ℕ) (st jt ct : Bool) (opening now : Scene) (waiting waiting' : List ℕ) (way : Option (List ℕ)) (first left left' : KeyboardState) → Leads A st jt ct opening now waiting way first left → Takes left left' text → HasNoLf text → waiting ≡ [] → waiting' ≡ text → Leads A st jt ct opening now waiting' way first left'
+unfolding taken_by keys_by Leaves
+took_keys text st jt ct opening now waiting waiting' way first left left' so_far takes line none keys =
+    took ForKeys text st jt ct opening now waiting waiting' way way first left left' so_far takes (λ _. line)
+    (keys ∙ ap (λ (t : List ℕ). t ++ text) (sym none)) refl
+
+-- Ctrl-E is taken
+escape_taken : {A : Type 0} (st jt ct : Bool) (opening now : Scene) (waiting : List ℕ) (way : Option (List ℕ)) (first left left' : KeyboardState) → Leads A st jt ct opening now waiting way first left → Takes left left' (5 ∷ []) → Leads A st jt ct opening now waiting way first left'
+unfolding Happens typed_by recorded_of said_by taken_by keys_by pressed_by Fits Leaves
+escape_taken st jt ct opening now waiting way first left left' so_far takes =
+    aside Escaped st jt ct opening now waiting waiting way way first left left' so_far refl refl refl refl
+    (record { takes = takes; fits = tt; presses = append-nil waiting; leaves = refl })
+
+pub escaped : {A : Type 0} (key : ℕ) (st jt ct : Bool) (opening now : Scene) (waiting : List ℕ) (way : Option (List ℕ)) (first left left' : KeyboardState) → Leads A st jt ct opening now waiting way first left → Takes left left' (key ∷ []) → key ≡ 5 → Leads A st jt ct opening now waiting way first left'
+escaped key st jt ct opening now waiting way first left left' so_far takes same =
+    escape_taken st jt ct opening now waiting way first left left' so_far (subst (λ (n : ℕ). Takes left left' (n ∷ [])) same takes)
+
+-- a part of a line for the machine, up to Ctrl-E
+pub took_keys_up_to_escape : {A : Type 0} (text : List ℕ) (st jt ct : Bool) (opening now : Scene) (waiting waiting' : List ℕ) (way : Option (List ℕ)) (first left left' : KeyboardState) → Leads A st jt ct opening now waiting way first left → Takes left left' (text ++ 5 ∷ []) → HasNoLf text → waiting ≡ [] → waiting' ≡ text → Leads A st jt ct opening now waiting' way first left'
+took_keys_up_to_escape text st jt ct opening now waiting waiting' way first left left' so_far takes line none keys =
+    let parts = Takes_split left left' text 5 takes in
+    escape_taken st jt ct opening now waiting' way first parts.0 left'
+    (took_keys text st jt ct opening now waiting waiting' way first left parts.0 so_far parts.1 line none keys) parts.2
+
+-- a line for the console
+pub took_line : {A : Type 0} (text : List ℕ) (st jt ct : Bool) (opening now : Scene) (waiting : List ℕ) (way way' : Option (List ℕ)) (first left left' : KeyboardState) → Leads A st jt ct opening now waiting way first left → Takes left left' (text ++ 10 ∷ []) → left.is_terminal ≡ false → HasNoLf text → IfSome way' (λ (line : List ℕ). line ≡ without_cr text) → Leads A st jt ct opening now waiting way' first left'
+unfolding taken_by keys_by Leaves
+took_line text st jt ct opening now waiting way way' first left left' so_far takes nobody line under =
+    took ForLine text st jt ct opening now waiting waiting way way' first left left' so_far takes (nobody, line) (sym (append-nil waiting)) under
+
+-- the last one
+pub took_last_line : {A : Type 0} (text : List ℕ) (st jt ct : Bool) (opening now : Scene) (waiting : List ℕ) (way way' : Option (List ℕ)) (first left left' : KeyboardState) → Leads A st jt ct opening now waiting way first left → Takes left left' text → left.is_terminal ≡ false → HasNoLf text → IfSome way' (λ (line : List ℕ). line ≡ text) → Leads A st jt ct opening now waiting way' first left'
+unfolding taken_by keys_by Leaves
+took_last_line text st jt ct opening now waiting way way' first left left' so_far takes nobody line under =
+    took ForLastLine text st jt ct opening now waiting waiting way way' first left left' so_far takes (nobody, line) (sym (append-nil waiting)) under
+
+-- nothing is taken
+pub nothing_taken : {A : Type 0} (st jt ct : Bool) (opening now : Scene) (waiting : List ℕ) (way : Option (List ℕ)) (first left left' : KeyboardState) → Leads A st jt ct opening now waiting way first left → Takes left left' [] → Leads A st jt ct opening now waiting way first left'
+nothing_taken st jt ct opening now waiting way first left left' so_far none =
+    (so_far.0, so_far.1, record { taken = Takes_kept first left left' (flat_map taken_by so_far.0) so_far.2.taken none; suited = so_far.2.suited; pressed = so_far.2.pressed; tried = so_far.2.tried })
+
+-- the text under way may be that of a line by what stops it
+abbrev pub Holds : Stop → List ℕ → Option (List ℕ) → Type 0
+Holds stops.LineFeed text way = IfSome way (λ line. line ≡ without_cr text)
+Holds _ text way = IfSome way (λ line. line ≡ text)
+
+holds_none : (stop : Stop) (text : List ℕ) → Holds stop text None
+holds_none stops.LineFeed text = tt
+holds_none stops.Escape text = tt
+holds_none stops.Full text = tt
+holds_none stops.End text = tt
+
+pub by_stop : {A : Type 0} (stop : Stop) (text : List ℕ) (st jt ct : Bool) (opening now : Scene) (waiting : List ℕ) (way way' : Option (List ℕ)) (first left left' : KeyboardState) → Leads A st jt ct opening now waiting way first left → Takes left left' (up_to stop text) → HasNoLf text → left.is_terminal ≡ false → Holds stop text way' → Leads A st jt ct opening now waiting way' first left'
+by_stop stops.LineFeed text st jt ct opening now waiting way way' first left left' so_far takes line nobody held = took_line text st jt ct opening now waiting way way' first left left' so_far takes nobody line held
+by_stop stops.Escape text st jt ct opening now waiting way way' first left left' so_far takes line nobody held =
+    let parts = Takes_split left left' text 5 takes in
+    escape_taken st jt ct opening now waiting way' first parts.0 left' (took_last_line text st jt ct opening now waiting way way' first left parts.0 so_far parts.1 nobody line held) parts.2
+by_stop stops.Full text st jt ct opening now waiting way way' first left left' so_far takes line nobody held = took_last_line text st jt ct opening now waiting way way' first left left' so_far takes nobody line held
+by_stop stops.End text st jt ct opening now waiting way way' first left left' so_far takes line nobody held = took_last_line text st jt ct opening now waiting way way' first left left' so_far takes nobody line held
+
+-- there is no line
+pub no_line : {A : Type 0} (text : List ℕ) (st jt ct : Bool) (opening now : Scene) (waiting : List ℕ) (way : Option (List ℕ)) (first left left' : KeyboardState) → Leads A st jt ct opening now waiting way first left → Takes left left' text → text ≡ [] → Leads A st jt ct opening now waiting way first left'
+no_line text st jt ct opening now waiting way first left left' so_far takes none =
+    nothing_taken st jt ct opening now waiting way first left left' so_far (subst (λ (t : List ℕ). Takes left left' t) none takes)
+
+-- a line is begun
+pub began : {A : Type 0} (text : List ℕ) (st jt ct : Bool) (opening now : Scene) (waiting : List ℕ) (way way' : Option (List ℕ)) (first left : KeyboardState) → Leads A st jt ct opening now waiting way first left → IfSome way' (λ (line : List ℕ). line ≡ text) → Leads A st jt ct opening now waiting way' first left
+unfolding Happens typed_by recorded_of said_by taken_by keys_by pressed_by Fits Leaves
+began text st jt ct opening now waiting way way' first left so_far under =
+    aside (Began text) st jt ct opening now waiting waiting way way' first left left so_far refl refl refl refl
+    (no_keys (Began text) waiting way way' left refl tt refl refl under)
+
+-- by what the keyboard gives
+pub own_by : {A : Type 0} (press : Press) (st jt ct : Bool) (opening now : Scene) (waiting : List ℕ) (way : Option (List ℕ)) (first left left' : KeyboardState) → Leads A st jt ct opening now waiting way first left → Takes left left' (bytes_of press) → left.is_terminal ≡ true → Leads A st jt ct opening now waiting way first left'
+own_by (presses.Byte key) st jt ct opening now waiting way first left left' so_far takes person = took_own key st jt ct opening now waiting way first left left' so_far takes person
+own_by presses.Nothing st jt ct opening now waiting way first left left' so_far takes person = nothing_taken st jt ct opening now waiting way first left left' so_far takes
+own_by presses.End st jt ct opening now waiting way first left left' so_far takes person = nothing_taken st jt ct opening now waiting way first left left' so_far takes
+
+lost_key : {A : Type 0} (key : ℕ) (is : Bool) → (key == 5) ≡ is → (st jt ct : Bool) (opening now : Scene) (waiting : List ℕ) (way : Option (List ℕ)) (first left left' : KeyboardState) → Leads A st jt ct opening now waiting way first left → Takes left left' (key ∷ []) → Leads A st jt ct opening now waiting way first left'
+lost_key key true e st jt ct opening now waiting way first left left' so_far takes = escaped key st jt ct opening now waiting way first left left' so_far takes (grind (arith, nat_tests, e))
+lost_key key false e st jt ct opening now waiting way first left left' so_far takes = took_lost key st jt ct opening now waiting way first left left' so_far takes
+
+pub lost_by : {A : Type 0} (press : Press) (st jt ct : Bool) (opening now : Scene) (waiting : List ℕ) (way : Option (List ℕ)) (first left left' : KeyboardState) → Leads A st jt ct opening now waiting way first left → Takes left left' (bytes_of press) → Leads A st jt ct opening now waiting way first left'
+lost_by (presses.Byte key) st jt ct opening now waiting way first left left' so_far takes = lost_key key (key == 5) refl st jt ct opening now waiting way first left left' so_far takes
+lost_by presses.Nothing st jt ct opening now waiting way first left left' so_far takes = nothing_taken st jt ct opening now waiting way first left left' so_far takes
+lost_by presses.End st jt ct opening now waiting way first left left' so_far takes = nothing_taken st jt ct opening now waiting way first left left' so_far takes
+
+-- a line of which a front is taken before, and then its rest
+pub took_long_line : {A : Type 0} (stop : Stop) (text rest : List ℕ) (st jt ct : Bool) (opening now : Scene) (waiting : List ℕ) (way : Option (List ℕ)) (first left mid left' : KeyboardState) → Leads A st jt ct opening now waiting way first left → Taken left mid text → Taken_by stop mid left' rest → left.is_terminal ≡ false → Leads A st jt ct opening now waiting None first left'
+took_long_line stop text rest st jt ct opening now waiting way first left mid left' so_far front back nobody =
+    let line : HasNoLf (text ++ rest) = All-append (λ byte. byte ≢ 10) text rest front.line back.line in
+    let takes : Takes left left' (up_to stop (text ++ rest)) = Takes_joined stop left mid left' text rest front.takes back.takes in
+    by_stop stop (text ++ rest) st jt ct opening now waiting way None first left left' so_far takes line nobody (holds_none stop (text ++ rest))
 
 -- the file of a script
-pub asked : {A : Type 0} (name : List ℕ) (st jt ct : Bool) (opening old new : Scene) → Leads A st jt ct opening old → new.session.machine ≡ old.session.machine → AsksFor name old.session.store new.session.store → new.screen ≡ old.screen → new.journal ≡ old.journal → new.console ≡ old.console → Leads A st jt ct opening new
-unfolding Happens typed_by recorded_of said_by
-asked name st jt ct opening old new so_far machine asks screen journal console =
-    more (Asked name) st jt ct st jt ct opening old new so_far (machine, asks)
+pub asked : {A : Type 0} (name : List ℕ) (st jt ct : Bool) (opening old new : Scene) (waiting : List ℕ) (way : Option (List ℕ)) (first left : KeyboardState) → Leads A st jt ct opening old waiting way first left → new.session.machine ≡ old.session.machine → AsksFor name old.session.store new.session.store → new.screen ≡ old.screen → new.journal ≡ old.journal → new.console ≡ old.console → Leads A st jt ct opening new waiting way first left
+unfolding Happens typed_by recorded_of said_by taken_by keys_by pressed_by Fits Leaves
+asked name st jt ct opening old new waiting way first left so_far machine asks screen journal console =
+    more (Asked name) st jt ct st jt ct opening old new waiting waiting way way first left left so_far (machine, asks)
     (still st old.screen new.screen screen) (still jt old.journal new.journal journal) (still ct old.console new.console console)
+    (no_keys (Asked name) waiting way way left refl tt refl refl refl)
 
 pub asks_for : {V : Type 0} (bytes_of : V → List ℕ) (r : Result V StoreError) (name : List ℕ) (s s' : StoreState) → IfOk r (λ v. Fetches s name (bytes_of v) s') → IfErr r (λ e. FailsToFetch s name e s') → AsksFor name s s'
 asks_for bytes_of (Ok v) name s s' ok err = inl (bytes_of v, ok)
@@ -129,19 +377,20 @@ taken (Ok n) b c buf w = (take n buf, w)
 taken (Err e) b c buf w = ([], Fronts_kept b c w)
 
 -- a piece of what is said, or none of it
-pub piece_said : {A E : Type 0} (r : Result ℕ E) (buf : List ℕ) (st jt ct torn : Bool) (opening old new : Scene) → torn ≡ is_err r → ct ≡ false → Leads A st jt ct opening old → new.session ≡ old.session → new.screen ≡ old.screen → new.journal ≡ old.journal → WriteAppends old.console new.console r buf → Leads A st jt torn opening new
-unfolding Happens typed_by recorded_of said_by
-piece_said r buf st jt true torn opening old new e whole so_far session screen journal w = cc
-piece_said {A} r buf st jt false torn opening old new e whole so_far session screen journal w =
+pub piece_said : {A E : Type 0} (r : Result ℕ E) (buf : List ℕ) (st jt ct torn : Bool) (opening old new : Scene) (waiting : List ℕ) (way : Option (List ℕ)) (first left : KeyboardState) → torn ≡ is_err r → ct ≡ false → Leads A st jt ct opening old waiting way first left → new.session ≡ old.session → new.screen ≡ old.screen → new.journal ≡ old.journal → WriteAppends old.console new.console r buf → Leads A st jt torn opening new waiting way first left
+unfolding Happens typed_by recorded_of said_by taken_by keys_by pressed_by Fits Leaves
+piece_said r buf st jt true torn opening old new waiting way first left e whole so_far session screen journal w = cc
+piece_said {A} r buf st jt false torn opening old new waiting way first left e whole so_far session screen journal w =
     let piece : (text : List ℕ) × WrittenUnless (is_err r) old.console new.console text = taken r old.console new.console buf w in
-    let here : Leads A st jt (is_err r) opening new =
-    more (Said piece.0) st jt false st jt (is_err r) opening old new so_far session
-    (still st old.screen new.screen screen) (still jt old.journal new.journal journal) piece.1 in
-    subst (λ (t : Bool). Leads A st jt t opening new) (sym e) here
+    let here : Leads A st jt (is_err r) opening new waiting way first left =
+    more (Said piece.0) st jt false st jt (is_err r) opening old new waiting waiting way way first left left so_far session
+    (still st old.screen new.screen screen) (still jt old.journal new.journal journal) piece.1
+    (no_keys (Said piece.0) waiting way way left refl tt refl refl refl) in
+    subst (λ (t : Bool). Leads A st jt t opening new waiting way first left) (sym e) here
 
-pub begun : {A : Type 0} (opening now : Scene) → now ≡ opening → Leads A false false false opening now
-unfolding Happen
-begun opening now e = (
+pub begun : {A : Type 0} (opening now : Scene) (waiting : List ℕ) (way : Option (List ℕ)) (first left : KeyboardState) → now ≡ opening → waiting ≡ [] → way ≡ None → left ≡ first → Leads A false false false opening now waiting way first left
+unfolding Happen Leave
+begun opening now waiting way first left e none no_text same = (
   [],
   record {
     done = ap (λ (s : Scene). s.session) e;
@@ -149,6 +398,7 @@ begun opening now e = (
     kept = subst (λ (t : Option (List ℕ)). Appends opening.journal t []) (sym (ap (λ (s : Scene). s.journal) e)) (Appends-nil opening.journal);
     said = subst (λ (t : Option (List ℕ)). Appends opening.console t []) (sym (ap (λ (s : Scene). s.console) e)) (Appends-nil opening.console);
   },
+  record { taken = subst (λ (k : KeyboardState). Takes first k []) (sym same) (Takes_none first); suited = All-nil (Fits first.is_terminal); pressed = sym none; tried = no_text },
 )
 
 kept_on : (torn : Bool) (a b c : Option (List ℕ)) (text : List ℕ) → WrittenUnless torn a b text → Keeps b c → WrittenUnless torn a c text
@@ -157,8 +407,8 @@ kept_on true a b c text so_far kept =
 kept_on false a b c text so_far kept = Appends-kept a b c text so_far kept
 
 -- nothing is done, and the writers of the record and of the console keep what they have
-pub kept_by_writers : {A : Type 0} (st jt ct : Bool) (opening old new : Scene) → Leads A st jt ct opening old → new.session ≡ old.session → new.screen ≡ old.screen → Keeps old.journal new.journal → Keeps old.console new.console → Leads A st jt ct opening new
-kept_by_writers {A} st jt ct opening old new so_far session screen journal console =
+pub kept_by_writers : {A : Type 0} (st jt ct : Bool) (opening old new : Scene) (waiting : List ℕ) (way : Option (List ℕ)) (first left : KeyboardState) → Leads A st jt ct opening old waiting way first left → new.session ≡ old.session → new.screen ≡ old.screen → Keeps old.journal new.journal → Keeps old.console new.console → Leads A st jt ct opening new waiting way first left
+kept_by_writers {A} st jt ct opening old new waiting way first left so_far session screen journal console =
     let d : Dialogue so_far.0 st jt ct opening old = so_far.1 in (
       so_far.0,
       record {
@@ -167,6 +417,7 @@ kept_by_writers {A} st jt ct opening old new so_far session screen journal conso
         kept = kept_on jt opening.journal old.journal new.journal (flat_map recorded_of so_far.0) d.kept journal;
         said = kept_on ct opening.console old.console new.console (flat_map said_by so_far.0) d.said console;
       },
+      so_far.2,
     )
 
 or_torn : (torn other : Bool) (a b : Option (List ℕ)) (text : List ℕ) → WrittenUnless torn a b text → WrittenUnless (torn || other) a b text
@@ -175,11 +426,12 @@ or_torn false true a b text so_far = Fronts_all a b text so_far
 or_torn false false a b text so_far = so_far
 
 -- a writer of which no deed tells has failed, beside the console's
-pub also_torn : {A : Type 0} (st jt ct other torn : Bool) (opening now : Scene) → torn ≡ (ct || other) → Leads A st jt ct opening now → Leads A st jt torn opening now
-also_torn {A} st jt ct other torn opening now e so_far =
+pub also_torn : {A : Type 0} (st jt ct other torn : Bool) (opening now : Scene) (waiting : List ℕ) (way : Option (List ℕ)) (first left : KeyboardState) → torn ≡ (ct || other) → Leads A st jt ct opening now waiting way first left → Leads A st jt torn opening now waiting way first left
+also_torn {A} st jt ct other torn opening now waiting way first left e so_far =
     let d : Dialogue so_far.0 st jt ct opening now = so_far.1 in
-    let here : Leads A st jt (ct || other) opening now = (
+    let here : Leads A st jt (ct || other) opening now waiting way first left = (
       so_far.0,
       record { done = d.done; typed = d.typed; kept = d.kept; said = or_torn ct other opening.console now.console (flat_map said_by so_far.0) d.said },
+      so_far.2,
     ) in
-    subst (λ (t : Bool). Leads A st jt t opening now) (sym e) here
+    subst (λ (t : Bool). Leads A st jt t opening now waiting way first left) (sym e) here

@@ -1,2 +1,3 @@
 pub mod DeskLemmas
+pub mod KeyboardLemmas
 pub mod Writing

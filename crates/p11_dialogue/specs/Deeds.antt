@@ -1,16 +1,18 @@
 -- What is done at a console, and what it leaves on the screen and in the record.
-use Rattle.std.specs.Prelude.{◌≡◌, ◌⊎◌, ℕ, Bool, true, false, List, [], ◌∷◌, ◌++◌, Option, ◌==◌, if◌then◌else◌}
+use Rattle.std.specs.Prelude.{◌≡◌, ◌≢◌, ◌⊎◌, ℕ, Bool, true, false, List, [], ◌∷◌, ◌++◌, All, ⊤, Option, Some, None, IfSome, IsSomeAnd, ◌==◌, if◌then◌else◌}
 use Rattle.std.specs.Bool.{MatchBool}
 use Rattle.std.specs.List.{flat_map}
-use Rattle.std.specs.Io.KnownBytes.{Appends}
+use Rattle.std.specs.Io.KnownBytes.{Appends, Consumes}
 use Rattle.p11_lines.specs.declared.answer.Answer.{Answer}
 use Rattle.p11_lines.specs.declared.answer.Answer.TheVariants as answers
 use Rattle.p11_lines.specs.declared.line.Line.{Line}
 use Rattle.p11_lines.specs.declared.line.Line.TheVariants as lines
 use Rattle.p11_lines.specs.AnswerText.{text_of}
+use Rattle.p11_lines.specs.Grammar.{line_from}
 use Rattle.p11_lines.specs.Calls.LineText.{line_text}
 use Rattle.p11_store.specs.declared.store.StoreError.{StoreError}
 use Rattle.p11_cpu.specs.State.{State}
+use Rattle.p11_panel.specs.Script.{without_cr}
 use Rattle.p11_panel.specs.Session.{SessionState, with_store, Obeys}
 use Rattle.p11_store.specs.Store.{StoreState, Fetches, FailsToFetch}
 
@@ -52,13 +54,28 @@ pub record Fronts (old new : Option (List ℕ)) (text : List ℕ) : Type 0 where
   pub written : Appends old new front
   pub split : text ≡ front ++ rest
 
+-- What a text from the keyboard is taken for: a line for the console, which LF ends, or the last one, which it doesn't;
+-- a line for the machine, whose LF is pressed as CR; keys for the machine; a key of the line editor's, or an answer to a
+-- question; or keys that are dropped, since the machine takes none.
+pub data Use : Type 0 where
+  ForLine : Use
+  ForLastLine : Use
+  ForKeyLine : Use
+  ForKeys : Use
+  ForProgram : Use
+  ForNothing : Use
+
 -- A deed: a line was tried, had this answer, and the console told it; keys were pressed or turns made for a run, which
--- is told as a whole; the store was asked for the file of a script; or something else was said.
+-- is told as a whole; the store was asked for the file of a script; something else was said; a text was taken from the
+-- keyboard; Ctrl-E was; or a line was begun that a script has, or a person has typed.
 pub data Deed (A : Type 0) : Type 0 where
   Tried : Line A → Answer A → Deed A
   Ran : Line A → Answer A → Deed A
   Asked : List ℕ → Deed A
   Said : List ℕ → Deed A
+  Took : Use → List ℕ → Deed A
+  Escaped : Deed A
+  Began : List ℕ → Deed A
 
 -- the store gives the bytes under a name, or none
 abbrev pub AsksFor : List ℕ → StoreState → StoreState → Type 0
@@ -70,7 +87,7 @@ unfoldable pub Happens : {A : Type 0} → Deed A → SessionState → SessionSta
 Happens (Tried line answer) s s' = Obeys line s answer s'
 Happens (Ran line answer) s s' = Obeys line s answer s' × (is_of_run line ≡ true)
 Happens (Asked name) s s' = (s'.machine ≡ s.machine) × AsksFor name s.store s'.store
-Happens (Said text) s s' = s' ≡ s
+Happens _ s s' = s' ≡ s
 
 -- deeds, one after another
 unfoldable pub Happen : {A : Type 0} → List (Deed A) → SessionState → SessionState → Type 0
@@ -113,6 +130,79 @@ pub record Dialogue {A : Type 0} (deeds : List (Deed A)) (screen_torn journal_to
   pub typed : WrittenUnless screen_torn s.screen s'.screen (flat_map typed_by deeds)
   pub kept : WrittenUnless journal_torn s.journal s'.journal (flat_map recorded_of deeds)
   pub said : WrittenUnless console_torn s.console s'.console (flat_map said_by deeds)
+
+-- ---- the keyboard
+
+-- the bytes that are left, where contracts know them; and whether a person sits at it
+pub record KeyboardState : Type 0 where
+  pub left : Option (List ℕ)
+  pub is_terminal : Bool
+
+-- these bytes are taken from a keyboard, and no others
+pub record Takes (old new : KeyboardState) (bytes : List ℕ) : Type 0 where
+  pub taken : Consumes old.left new.left bytes
+  pub same : new.is_terminal ≡ old.is_terminal
+
+-- the bytes of the keyboard that a deed takes: with the LF (10) that ends a line; Ctrl-E is 5
+unfoldable pub taken_by : {A : Type 0} → Deed A → List ℕ
+taken_by (Took ForLine text) = text ++ 10 ∷ []
+taken_by (Took ForKeyLine text) = text ++ 10 ∷ []
+taken_by (Took kind text) = text
+taken_by Escaped = 5 ∷ []
+taken_by _ = []
+
+-- the keys for the machine: a line's LF or CR LF is CR (13)
+unfoldable pub keys_by : {A : Type 0} → Deed A → List ℕ
+keys_by (Took ForKeyLine text) = without_cr text ++ 13 ∷ []
+keys_by (Took ForKeys text) = text
+keys_by _ = []
+
+abbrev pub is_done : {A : Type 0} → Answer A → Bool
+is_done answers.Done = true
+is_done _ = false
+
+-- the keys that the machine is given in a run
+unfoldable pub pressed_by : {A : Type 0} → Deed A → List ℕ
+pressed_by (Ran (lines.Key text) answer) = if is_done answer then text else []
+pressed_by _ = []
+
+abbrev pub HasNoLf : List ℕ → Type 0
+HasNoLf text = All (λ byte. byte ≢ 10) text
+
+-- A person's keys are for the machine or the program. What a file or a program gives is taken by lines, for the machine
+-- also by parts of them. Either may be dropped.
+abbrev pub Suits : Bool → Use → List ℕ → Type 0
+Suits is_terminal ForNothing text = ⊤
+Suits is_terminal ForProgram text = is_terminal ≡ true
+Suits is_terminal ForKeys text = is_terminal ≡ false → HasNoLf text
+Suits is_terminal kind text = (is_terminal ≡ false) × HasNoLf text
+
+unfoldable pub Fits : {A : Type 0} → Bool → Deed A → Type 0
+Fits is_terminal (Took kind text) = Suits is_terminal kind text
+Fits is_terminal _ = ⊤
+
+-- A text may be under way from when it is taken or begun until it is tried. A line that is tried is what the text under
+-- way is by the console's grammar.
+unfoldable pub Leaves : {A : Type 0} → Deed A → Option (List ℕ) → Option (List ℕ) → Type 0
+Leaves (Took ForLine text) was is = IfSome is (λ line. line ≡ without_cr text)
+Leaves (Took ForLastLine text) was is = IfSome is (λ line. line ≡ text)
+Leaves (Began text) was is = IfSome is (λ line. line ≡ text)
+Leaves (Tried line answer) was is = IsSomeAnd was (λ text. line_from text ≡ Some line) × (is ≡ None)
+Leaves _ was is = is ≡ was
+
+-- deeds, one after another; no text is under way before them
+unfoldable pub Leave : {A : Type 0} → List (Deed A) → Option (List ℕ) → Option (List ℕ) → Type 0
+Leave [] was is = is ≡ was
+Leave (deed ∷ deeds) was is = (next : Option (List ℕ)) × Leaves deed was next × Leave deeds next is
+
+-- What deeds take from a keyboard are its bytes in order, none left out and none twice. The machine is given the keys
+-- among them in order, but for the last, which wait. Of a text that is taken or begun a line is tried once at most.
+pub record Given {A : Type 0} (deeds : List (Deed A)) (waiting : List ℕ) (text : Option (List ℕ)) (old new : KeyboardState)
+    : Type 0 where
+  pub taken : Takes old new (flat_map taken_by deeds)
+  pub suited : All (Fits old.is_terminal) deeds
+  pub pressed : flat_map keys_by deeds ≡ flat_map pressed_by deeds ++ waiting
+  pub tried : Leave deeds None text
 
 -- a scene, by its parts
 abbrev pub scene : State → StoreState → Option (List ℕ) → Option (List ℕ) → Option (List ℕ) → Scene

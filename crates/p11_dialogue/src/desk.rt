@@ -1,12 +1,17 @@
-// The machine with its store, the screen on which it types, the record of what was done, and the console.
-ghost use Rattle.std.specs.Prelude.{◌≡◌, true, ◌||◌, List};
-ghost use Rattle.std.specs.Io.{WritesAtMost};
-ghost use Rattle.p11_dialogue.specs.Deeds.{Deed, Dialogue, is_of_run, scene};
+// The machine with its store, the screen on which it types, the record of what was done, the console and the keyboard.
+ghost use Rattle.std.specs.Prelude.{◌≡◌, ◌≤◌, ◌-◌, ◌||◌, ℕ, Option, IfSome, true, if◌then◌else◌, List, length, slice_index, nat_eq, drop};
+ghost use Rattle.std.specs.Io.{StartsWith, WritesAtMost};
+ghost use Rattle.arrayvec.specs.ArrayVec.{array_vec_len};
+ghost use Rattle.p11_panel.specs.Script.{without_cr};
+ghost use Rattle.p11_dialogue.specs.Calls.{takes_turns};
+ghost use Rattle.p11_dialogue.specs.Deeds.{Deed, Dialogue, Given, KeyboardState, is_done, scene};
 
+use crate::keyboard::{ESCAPE, Input, Keyboard, Press, Stop};
 use crate::station::{Attempt, Station, record_line, tell};
 use crate::tapes::TapeNote;
+use arrayvec::ArrayVec;
 use p11_lines::StdWriter;
-use p11_panel::{Answer, Bytes, Command, Devices, Fault, Line, Store, StoreError};
+use p11_panel::{Answer, Bytes, Command, Devices, Fault, Line, Store, StoreError, parse_line};
 use std::alloc::Allocator;
 use std::io;
 use std::io::{ErrorKind, Write};
@@ -14,27 +19,45 @@ use std::marker::{Brand, Model, PhantomData};
 
 /// How a dialogue begins, which contracts alone know.
 pub trait Opening {
-    ghost use Rattle.p11_dialogue.specs.Deeds.{Scene};
+    ghost use Rattle.p11_dialogue.specs.Deeds.{KeyboardState, Scene};
 
     ghost opening: { Scene };
+
+    ghost keyboard: { KeyboardState };
 }
 
 impl Opening for Brand {
-    ghost use Rattle.std.specs.Prelude.{None};
+    ghost use Rattle.std.specs.Prelude.{None, false};
     ghost use Rattle.p11_cpu.specs.Operator.{new_machine};
     ghost use Rattle.p11_dialogue.specs.Deeds.{scene};
 
     ghost opening = { scene (new_machine 4) (record { files = None; refusals = 0; calls = None }) None None None };
+
+    ghost keyboard = { record { left = None; is_terminal = false } };
 }
 
-/// What a dialogue is held over, and the writer of the console.
+/// What a dialogue is held over, the writer of the console, and the keyboard.
 ///
 /// Once the writer of the screen or of the record has failed nothing more is done, and once the console's has, nothing
-/// more is said. Whoever holds it, all that was done and said since the opening is a list of deeds, and the screen, the
-/// record and the console are theirs: it is the invariant.
-pub(crate) struct Desk<A: Allocator, S: Store, T: Write, L: Write, O: Opening, W: Write> {
+/// more is said. Whoever holds it, all that was done, said and taken from the keyboard since the opening is a list of deeds,
+/// and the screen, the record and the console are theirs: it is the invariant.
+pub(crate) struct Desk<
+    A: Allocator,
+    S: Store,
+    T: Write,
+    L: Write,
+    O: Opening,
+    W: Write,
+    K: Keyboard,
+> {
     station: Station<A, S, T, L>,
     console: StdWriter<W>,
+    input: Input<K>,
+    /// Keys that wait for room in the machine, the first pressed first.
+    waiting: ArrayVec<u8, 4096>,
+    /// The text that is under way.
+    text: LineText,
+    is_under_way: bool,
     is_screen_torn: bool,
     is_journal_torn: bool,
     is_console_torn: bool,
@@ -43,10 +66,10 @@ pub(crate) struct Desk<A: Allocator, S: Store, T: Write, L: Write, O: Opening, W
     of: PhantomData<O>,
 }
 
-impl<A: Allocator, S: Store, T: Write, L: Write, O: Opening, W: Write> Model
-    for Desk<A, S, T, L, O, W> {
-    ghost use Rattle.std.specs.Prelude.{List};
-    ghost use Rattle.p11_dialogue.specs.Deeds.{Deed, Dialogue, Tears, scene};
+impl<A: Allocator, S: Store, T: Write, L: Write, O: Opening, W: Write, K: Keyboard> Model
+    for Desk<A, S, T, L, O, W, K> {
+    ghost use Rattle.std.specs.Prelude.{List, Some, None, if◌then◌else◌};
+    ghost use Rattle.p11_dialogue.specs.Deeds.{Deed, Dialogue, Given, Tears, scene};
 
     ghost Value = { Tears };
 
@@ -55,8 +78,26 @@ impl<A: Allocator, S: Store, T: Write, L: Write, O: Opening, W: Write> Model
     ghost invariant = { λ d. (deeds : List (Deed A))
         × Dialogue deeds d.is_screen_torn d.is_journal_torn d.is_console_torn O.opening
         (scene d.station.panel (S.state d.station.store) (T.contents d.station.screen)
-        (L.contents d.station.journal) (W.contents d.console.inner)) };
+        (L.contents d.station.journal) (W.contents d.console.inner))
+        × Given deeds d.waiting.items (if d.is_under_way then Some d.text.items else None) O.keyboard d.input };
 }
+
+/// A line that is taken, or its front: longer than any that is done, with a CR behind it.
+pub(crate) type LineText = ArrayVec<u8, 4098>;
+
+/// How a line came to its end.
+#[derive(Clone, Copy)]
+pub(crate) enum Entry {
+    /// It is whole.
+    Line,
+    /// It has more bytes than are kept.
+    Long,
+    /// There is no further line.
+    End,
+}
+
+/// How many keys the machine holds.
+const MOST_KEYS: u32 = 64;
 
 /// What is left of a dialogue when it is over.
 #[derive(Drop)]
@@ -77,31 +118,36 @@ pub struct Parting<A: Allocator, S, T, L, W> {
     pub lacks_script: bool,
 }
 
-/// What the console and the keyboard came to.
+/// What the console and its scripts came to.
 #[derive(Clone, Copy)]
 pub(crate) struct Ending {
     pub(crate) is_console_torn: bool,
-    pub(crate) has_read_fault: bool,
     pub(crate) has_refused: bool,
     pub(crate) lacks_script: bool,
 }
 
-impl<A: Allocator + Copy, S: Store, T: Write, L: Write, O: Opening, W: Write> Desk<
-    A,
-    S,
-    T,
-    L,
-    O,
-    W,
-> {
+impl<
+    A: Allocator + Copy,
+    S: Store,
+    T: Write,
+    L: Write,
+    O: Opening,
+    W: Write,
+    K: Keyboard + Drop,
+> Desk<A, S, T, L, O, W, K> {
     /// With nothing typed, nothing recorded and nothing said.
-    pub(crate) fn new(station: Station<A, S, T, L>, console: W) -> Self
-        requires { scene station.panel (S.state station.store) (T.contents station.screen)
+    pub(crate) fn new(station: Station<A, S, T, L>, console: W, input: Input<K>) -> Self
+        requires opening { scene station.panel (S.state station.store) (T.contents station.screen)
             (L.contents station.journal) (W.contents console) ≡ O.opening }
+        requires keyboard { input ≡ O.keyboard }
     {
         Desk {
             station,
             console: StdWriter { inner: console },
+            input,
+            waiting: ArrayVec::new(),
+            text: ArrayVec::new(),
+            is_under_way: false,
             is_screen_torn: false,
             is_journal_torn: false,
             is_console_torn: false,
@@ -110,15 +156,21 @@ impl<A: Allocator + Copy, S: Store, T: Write, L: Write, O: Opening, W: Write> De
         }
     }
 
-    /// What is left of it, beside what the other writers and the keyboard came to.
+    /// What is left of it, beside what the other writers and the scripts came to.
     pub(crate) fn part(self, ending: Ending) -> Parting<A, S, T, L, W>
         ensures { (deeds : List (Deed A)) × Dialogue deeds result.is_screen_torn result.is_journal_torn
             result.is_console_torn O.opening (scene result.station.panel (S.state result.station.store)
-            (T.contents result.station.screen) (L.contents result.station.journal) (W.contents result.console)) }
+            (T.contents result.station.screen) (L.contents result.station.journal) (W.contents result.console))
+            × (waiting : List ℕ) × (text : Option (List ℕ)) × (left : KeyboardState)
+            × Given deeds waiting text O.keyboard left }
     {
         let Desk {
             station,
             console,
+            input,
+            waiting: _,
+            text: _,
+            is_under_way: _,
             is_screen_torn,
             is_journal_torn,
             is_console_torn,
@@ -132,7 +184,7 @@ impl<A: Allocator + Copy, S: Store, T: Write, L: Write, O: Opening, W: Write> De
             is_screen_torn,
             is_journal_torn,
             is_console_torn: either(is_console_torn, ending.is_console_torn),
-            has_read_fault: ending.has_read_fault,
+            has_read_fault: input.has_failed(),
             has_refused: ending.has_refused,
             lacks_script: ending.lacks_script,
         }
@@ -157,12 +209,30 @@ impl<A: Allocator + Copy, S: Store, T: Write, L: Write, O: Opening, W: Write> De
         self.note
     }
 
-    /// Does a line, shows what was typed, records the line, and tells its answer unless it is refused. `None`: a writer
-    /// had failed before, and nothing is done.
-    pub(crate) fn answer(&mut self, alloc: A, line: Line<A>) -> Option<Answer<A>> {
+    /// A line is begun that a script has, or a person has typed.
+    pub(crate) fn begin(&mut self, text: &[u8]) {
+        match line_text(text) {
+            Some(text) => {
+                self.text = text;
+                self.is_under_way = true;
+            }
+            None => self.is_under_way = false,
+        }
+    }
+
+    /// Does the line that is under way, shows what was typed, records the line, and tells its answer unless it is refused.
+    /// No text is under way then. `None`: a writer had failed before, and nothing is done.
+    pub(crate) fn answer(&mut self, alloc: A) -> Option<Answer<A>> {
         if self.has_torn() {
             return None;
         }
+        if !self.is_under_way {
+            return Some(Answer::Refused(Fault::BadLine));
+        }
+        let line = match parse_line(alloc, self.text.as_slice()) {
+            Ok(line) => line,
+            Err(fault) => return Some(Answer::Refused(fault)),
+        };
         let Some(text) = record_line(alloc, &line) else {
             return Some(Answer::Refused(Fault::NoMemory));
         };
@@ -177,17 +247,22 @@ impl<A: Allocator + Copy, S: Store, T: Write, L: Write, O: Opening, W: Write> De
         self.is_screen_torn = !is_shown;
         self.is_journal_torn = !is_kept;
         self.is_console_torn = !tell(&mut self.console, &answer);
+        self.is_under_way = false;
         Some(answer)
     }
 
-    /// Does a line of a run, shows what was typed, and records the line. `None`: a writer had failed before, and nothing
-    /// is done.
-    pub(crate) fn run_line(&mut self, alloc: A, line: Line<A>) -> Option<Answer<A>>
-        requires { is_of_run line ≡ true }
-    {
+    /// Makes turns of a run, as many as it says unless the machine stops, shows what was typed, and records them. `None`: a
+    /// writer had failed before, and nothing is done.
+    pub(crate) fn make_turns(
+        &mut self,
+        alloc: A,
+        turns: u32,
+        until_idle: bool,
+    ) -> Option<Answer<A>> {
         if self.is_torn() {
             return None;
         }
+        let line = turns_line(turns, until_idle);
         let Some(text) = record_line(alloc, &line) else {
             return Some(Answer::Refused(Fault::NoMemory));
         };
@@ -202,6 +277,51 @@ impl<A: Allocator + Copy, S: Store, T: Write, L: Write, O: Opening, W: Write> De
         self.is_screen_torn = !is_shown;
         self.is_journal_torn = !is_kept;
         Some(answer)
+    }
+
+    /// Presses as many of the keys that wait as there is room for; whether one was pressed.
+    pub(crate) fn press(&mut self, alloc: A) -> bool {
+        if self.waiting.is_empty() {
+            return false;
+        }
+        let Some(devices) = self.devices(alloc) else {
+            return false;
+        };
+        let room = MOST_KEYS.saturating_sub(devices.bus.keys) as usize;
+        self.press_front(alloc, room)
+    }
+
+    /// Presses the first of the keys that wait, at most so many; whether one was pressed.
+    fn press_front(&mut self, alloc: A, most: usize) -> bool {
+        if self.is_torn() {
+            return false;
+        }
+        let keys = front(&self.waiting, most);
+        if keys.is_empty() {
+            return false;
+        }
+        let count = keys.len();
+        let Ok(keys) = Vec::from_slice(alloc, keys) else {
+            return false;
+        };
+        let text = Bytes::from_vec(keys);
+        let line = Line::Key { text };
+        let Some(text) = record_line(alloc, &line) else {
+            return false;
+        };
+        self.note = TapeNote::Good;
+        let Attempt {
+            answer,
+            is_shown,
+            is_kept,
+        } = self
+            .station
+            .attempt(alloc, line, text.as_slice(), &mut self.note);
+        self.is_screen_torn = !is_shown;
+        self.is_journal_torn = !is_kept;
+        let is_pressed = is_done(&answer);
+        drop_front(&mut self.waiting, count_if(is_pressed, count));
+        is_pressed
     }
 
     /// The bytes of a script. `None`: a writer had failed before, and nothing is done.
@@ -249,6 +369,112 @@ impl<A: Allocator + Copy, S: Store, T: Write, L: Write, O: Opening, W: Write> De
         }
     }
 
+    /// Whether a person sits at the keyboard.
+    pub(crate) fn is_terminal(&self) -> bool {
+        self.input.is_terminal()
+    }
+
+    /// Waits a moment.
+    pub(crate) fn pause(&mut self) {
+        self.input.pause();
+    }
+
+    /// Whether keys wait for room in the machine.
+    pub(crate) fn has_waiting(&self) -> bool {
+        !self.waiting.is_empty()
+    }
+
+    /// Whether no further key is taken for the machine.
+    pub(crate) fn is_full(&self) -> bool {
+        self.waiting.is_full()
+    }
+
+    /// Takes a key that a person presses for the machine, where there is room for it, or Ctrl-E. It reads only for the first
+    /// one that is asked for.
+    pub(crate) fn take_key(&mut self, is_first: bool) -> Press {
+        if self.waiting.is_full() {
+            return Press::Nothing;
+        }
+        if !self.input.is_terminal() {
+            return Press::Nothing;
+        }
+        match self.input.further(is_first) {
+            Press::Byte(key) => {
+                if key == ESCAPE {
+                    return Press::Byte(key);
+                }
+                self.waiting.push(key);
+                Press::Byte(key)
+            }
+            Press::Nothing => Press::Nothing,
+            Press::End => Press::End,
+        }
+    }
+
+    /// Takes a key that the machine isn't given, or Ctrl-E. It reads only for the first one that is asked for.
+    pub(crate) fn drop_key(&mut self, is_first: bool) -> Press {
+        self.input.further(is_first)
+    }
+
+    /// Takes a key that a person presses for the program.
+    pub(crate) fn take_own_key(&mut self) -> Press {
+        if !self.input.is_terminal() {
+            return Press::End;
+        }
+        self.input.next()
+    }
+
+    /// Takes a line for the machine, or as much of it as there is room for, up to Ctrl-E. It is one that no person types,
+    /// and none is taken while keys wait.
+    pub(crate) fn take_key_line(&mut self) -> Stop {
+        if !self.waiting.is_empty() {
+            return Stop::Full;
+        }
+        if self.input.is_terminal() {
+            return Stop::Full;
+        }
+        match self.input.take_text(&mut self.waiting, true) {
+            Stop::LineFeed => {
+                drop_return(&mut self.waiting);
+                self.waiting.push(b'\r');
+                Stop::LineFeed
+            }
+            Stop::Escape => Stop::Escape,
+            Stop::Full => Stop::Full,
+            Stop::End => Stop::End,
+        }
+    }
+
+    /// Takes the next line for the console, without LF and a CR just before it. It is one that no person types. Of one that
+    /// is too long a front is left in `line`.
+    pub(crate) fn take_line(&mut self, line: &mut LineText) -> Entry {
+        if self.input.is_terminal() {
+            return Entry::End;
+        }
+        match self.input.take_text(line, false) {
+            Stop::LineFeed => {
+                drop_return(line);
+                copy_line(line, &mut self.text);
+                self.is_under_way = true;
+                Entry::Line
+            }
+            Stop::End => {
+                if line.is_empty() {
+                    return Entry::End;
+                }
+                copy_line(line, &mut self.text);
+                self.is_under_way = true;
+                Entry::Line
+            }
+            Stop::Full => {
+                self.input.take_rest();
+                self.is_under_way = false;
+                Entry::Long
+            }
+            Stop::Escape => Entry::End,
+        }
+    }
+
     /// A run is over: what is recorded from here on is of another.
     pub(crate) fn end_run(&mut self) {
         let _ = self.station.journal.flush();
@@ -263,8 +489,15 @@ impl<A: Allocator + Copy, S: Store, T: Write, L: Write, O: Opening, W: Write> De
     }
 }
 
-impl<A: Allocator + Copy, S: Store, T: Write, L: Write, O: Opening, W: Write> Write
-    for Desk<A, S, T, L, O, W> {
+impl<
+    A: Allocator + Copy,
+    S: Store,
+    T: Write,
+    L: Write,
+    O: Opening,
+    W: Write,
+    K: Keyboard + Drop,
+> Write for Desk<A, S, T, L, O, W, K> {
     fn write(&mut self, buf: &[u8]) -> io::Result<usize> {
         self.say(buf)
     }
@@ -279,4 +512,93 @@ fn either(one: bool, other: bool) -> bool
     ensures { result ≡ (one || other) }
 {
     one || other
+}
+
+/// Puts a line in the place of another.
+fn copy_line(line: &LineText, to: &mut LineText)
+    ensures { to.new.items ≡ line.now.items }
+{
+    let mut copy = LineText::new();
+    if copy.try_extend_from_slice(line.as_slice()).is_ok() {
+        *to = copy;
+    }
+}
+
+/// A text as a line, unless it is longer.
+fn line_text(text: &[u8]) -> Option<LineText>
+    ensures { IfSome result (λ line. line.items ≡ text.now) }
+{
+    let mut line = LineText::new();
+    line.try_extend_from_slice(text).ok()?;
+    Some(line)
+}
+
+/// Drops a carriage return at the end.
+#[tactic(auto, using(crate::proofs::KeyboardLemmas::with_cr, crate::proofs::KeyboardLemmas::with_no_cr))]
+fn drop_return<const CAP: usize>(line: &mut ArrayVec<u8, CAP>)
+    ensures text { line.new.items ≡ without_cr line.old.items }
+    ensures len { array_vec_len line.new ≤ array_vec_len line.old }
+{
+    if ends_by_return(line.as_slice()) {
+        line.pop();
+    }
+}
+
+fn ends_by_return(text: &[u8]) -> bool
+    ensures { result ≡ nat_eq (slice_index text.now (length text.now - 1)) 13 }
+{
+    let len = text.len();
+    if len == 0 {
+        return false;
+    }
+    text[len - 1] == b'\r'
+}
+
+/// The line of some turns of a run.
+fn turns_line<A: Allocator>(turns: u32, until_idle: bool) -> Line<A>
+    ensures { takes_turns result ≡ true }
+{
+    if until_idle {
+        Line::Continue { turns }
+    } else {
+        Line::Step { turns }
+    }
+}
+
+fn is_done<A: Allocator>(answer: &Answer<A>) -> bool
+    ensures { result ≡ is_done answer.now }
+{
+    match answer {
+        Answer::Done => true,
+        _ => false,
+    }
+}
+
+/// So many, or none.
+fn count_if(is_so: bool, count: usize) -> usize
+    ensures { result ≡ (if is_so then count else 0) }
+{
+    if is_so { count } else { 0 }
+}
+
+/// The first of these keys, at most so many.
+fn front(keys: &ArrayVec<u8, 4096>, most: usize) -> &[u8]
+    ensures { StartsWith keys.now.items result.now }
+{
+    let keys = keys.as_slice();
+    &keys[..most.min(keys.len())]
+}
+
+/// Drops so many keys at the front.
+fn drop_front(keys: &mut ArrayVec<u8, 4096>, count: usize)
+    ensures { keys.new.items ≡ drop count keys.old.items }
+{
+    let mut rest = ArrayVec::new();
+    let all = keys.as_slice();
+    if rest
+        .try_extend_from_slice(&all[count.min(all.len())..])
+        .is_ok()
+    {
+        *keys = rest;
+    }
 }

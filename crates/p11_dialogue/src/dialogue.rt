@@ -1,13 +1,13 @@
 // The dialogue at the console.
 use crate::console::Console;
-use crate::desk::Opening;
+use crate::desk::{Entry, LineText, Opening};
 use crate::help::{say_all, say_one};
 use crate::host::Host;
 use crate::keyboard::Keyboard;
 use crate::lines::Origin;
 use crate::names::Names;
-use crate::prompt::{Entry, LineRead, take_line};
 use crate::reasons::misfit_of;
+use crate::scripts::MOST_BYTES;
 use crate::seat::Seat;
 use crate::verb::Verb;
 use crate::wording::{first_word, is_silent};
@@ -52,7 +52,7 @@ impl<
         if is_talk && self.can_go_on() && self.talk() == Next::End {
             return;
         }
-        if self.input.is_terminal() {
+        if self.is_terminal() {
             self.do_typed_lines();
         } else {
             self.do_given_lines();
@@ -61,14 +61,14 @@ impl<
 
     /// Does the lines that a program or a file gives, to the end.
     fn do_given_lines(&mut self) {
-        let mut line = LineRead::new();
+        let mut line = LineText::new();
         for _ in 0..u64::MAX {
             if !self.can_go_on() {
                 return;
             }
-            let next = match take_line(&mut self.input, &mut line) {
-                Entry::Line => self.do_line(line.text()),
-                Entry::Long => self.refuse_long(),
+            let next = match self.console.writer.inner.take_line(&mut line) {
+                Entry::Line if line.len() <= MOST_BYTES => self.do_line(line.as_slice()),
+                Entry::Line | Entry::Long => self.refuse_long(),
                 Entry::End => self.end(),
             };
             if next != Next::Line {
@@ -87,7 +87,7 @@ impl<
 
     /// The end of the input.
     pub(crate) fn end(&mut self) -> Next {
-        if !self.input.is_terminal() {
+        if !self.is_terminal() {
             self.tell();
             return Next::End;
         }

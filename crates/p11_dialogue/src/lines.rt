@@ -90,7 +90,7 @@ impl<
             let _ = self.written.add(self.alloc, name.as_slice());
         }
         let change = change_of(&line);
-        match self.console.writer.inner.answer(self.alloc, line) {
+        match self.console.writer.inner.answer(self.alloc) {
             None => {}
             Some(Answer::Refused(fault)) => self.refuse(text, fault, origin),
             Some(_) => {
@@ -132,7 +132,7 @@ impl<
         let Origin::Script(place) = origin else {
             return Saving::Writes;
         };
-        let is_watched = self.input.is_terminal() && !self.is_batch;
+        let is_watched = self.is_terminal() && !self.is_batch;
         if is_watched
             && !self.written.has(name)
             && self.host.is_newer(name, place.script)
@@ -150,13 +150,13 @@ impl<
         self.console.put(script);
         self.console.say(": write it (y, or another key)? ");
         for _ in 0..u64::MAX {
-            match self.input.next() {
+            match self.console.writer.inner.take_own_key() {
                 Press::Byte(key) => {
                     let is_agreed = key == b'y' || key == b'Y';
                     self.console.say(if is_agreed { "y\n" } else { "no\n" });
                     return is_agreed;
                 }
-                Press::Nothing => self.input.pause(),
+                Press::Nothing => self.console.writer.inner.pause(),
                 Press::End => return false,
             }
         }

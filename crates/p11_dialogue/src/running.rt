@@ -1,11 +1,8 @@
 // Runs of the machine in slices, between which the keyboard is asked.
-ghost use Rattle.std.specs.Prelude.{◌≡◌, true};
-ghost use Rattle.p11_dialogue.specs.Deeds.{is_of_run};
-
 use crate::console::Console;
 use crate::desk::{Desk, Opening};
-use crate::keyboard::{ESCAPE, Input, Keyboard, Press, Waiting};
-use p11_panel::{Answer, Bytes, Fault, Line, StopReason, Store};
+use crate::keyboard::{ESCAPE, Keyboard, Press, Stop};
+use p11_panel::{Answer, Fault, StopReason, Store};
 use std::alloc::Allocator;
 use std::io::Write;
 
@@ -73,18 +70,23 @@ const PATIENCE: u32 = 200;
 const KEY_TURNS: u32 = 4096;
 
 /// Takes what a person has pressed, as far as there is room for it: what is left isn't read.
-fn look_at_keys<K: Keyboard>(input: &mut Input<K>, waiting: &mut Waiting) -> Look {
+fn look_at_keys<
+    A: Allocator + Copy,
+    S: Store,
+    T: Write,
+    L: Write,
+    O: Opening,
+    W: Write,
+    K: Keyboard + Drop,
+>(desk: &mut Desk<A, S, T, L, O, W, K>) -> Look {
     let mut found = Look::Nothing;
     for _ in 0..u64::MAX {
-        if waiting.is_full() {
+        if desk.is_full() {
             return Look::Pressed;
         }
-        match input.further(found == Look::Nothing) {
+        match desk.take_key(found == Look::Nothing) {
             Press::Byte(ESCAPE) => return Look::Escaped,
-            Press::Byte(key) => {
-                found = Look::Pressed;
-                waiting.push(key);
-            }
+            Press::Byte(_) => found = Look::Pressed,
             Press::Nothing => return found,
             Press::End => return Look::Ended,
         }
@@ -93,95 +95,53 @@ fn look_at_keys<K: Keyboard>(input: &mut Input<K>, waiting: &mut Waiting) -> Loo
 }
 
 /// Drops what a read gives, up to Ctrl-E.
-fn drop_keys<K: Keyboard, W: Write>(input: &mut Input<K>, console: &mut Console<W>) -> Look {
+fn drop_keys<
+    A: Allocator + Copy,
+    S: Store,
+    T: Write,
+    L: Write,
+    O: Opening,
+    W: Write,
+    K: Keyboard + Drop,
+>(console: &mut Console<Desk<A, S, T, L, O, W, K>>) -> Look {
     let mut found = Look::Nothing;
     for _ in 0..u64::MAX {
-        match input.further(found == Look::Nothing) {
+        match console.writer.inner.drop_key(found == Look::Nothing) {
             Press::Byte(ESCAPE) => return Look::Escaped,
             Press::Byte(_) => found = Look::Pressed,
             Press::Nothing => break,
             Press::End => return Look::Ended,
         }
     }
-    if found == Look::Pressed && input.is_terminal() {
+    if found == Look::Pressed && console.writer.inner.is_terminal() {
         console.say("\x07");
     }
     found
 }
 
 /// Asks the keyboard, where keys go to the machine.
-fn ask_keyboard<K: Keyboard>(
-    course: &Course,
-    input: &mut Input<K>,
-    waiting: &mut Waiting,
-    is_quiet: bool,
-) -> Look {
+fn ask_keyboard<
+    A: Allocator + Copy,
+    S: Store,
+    T: Write,
+    L: Write,
+    O: Opening,
+    W: Write,
+    K: Keyboard + Drop,
+>(course: &Course, desk: &mut Desk<A, S, T, L, O, W, K>, is_quiet: bool) -> Look {
     if !course.has_keys {
         Look::Nothing
-    } else if input.is_terminal() {
-        look_at_keys(input, waiting)
-    } else if is_quiet && waiting.is_empty() {
-        take_line(input, waiting)
+    } else if desk.is_terminal() {
+        look_at_keys(desk)
+    } else if is_quiet && !desk.has_waiting() {
+        match desk.take_key_line() {
+            Stop::LineFeed | Stop::Full => Look::Pressed,
+            Stop::Escape => Look::Escaped,
+            Stop::End if desk.has_waiting() => Look::Pressed,
+            Stop::End => Look::Ended,
+        }
     } else {
         Look::Nothing
-    }
-}
-
-/// Takes the next line of what isn't typed by a person, its end as a carriage return.
-fn take_line<K: Keyboard>(input: &mut Input<K>, waiting: &mut Waiting) -> Look {
-    let mut found = Look::Nothing;
-    for _ in 0..u64::MAX {
-        if waiting.is_full() {
-            return found;
-        }
-        match input.next() {
-            Press::Byte(ESCAPE) => return Look::Escaped,
-            Press::Byte(b'\n') => {
-                if found == Look::Nothing || !waiting.ends_a_line() {
-                    waiting.push(b'\r');
-                }
-                return Look::Pressed;
-            }
-            Press::Byte(key) => {
-                found = Look::Pressed;
-                waiting.push(key);
-            }
-            Press::Nothing => input.pause(),
-            Press::End if found == Look::Nothing => return Look::Ended,
-            Press::End => return found,
-        }
-    }
-    found
-}
-
-/// Presses as many of the keys that wait as there is room for; whether one was pressed.
-fn press<A: Allocator + Copy, S: Store, T: Write, L: Write, O: Opening, W: Write>(
-    alloc: A,
-    desk: &mut Desk<A, S, T, L, O, W>,
-    waiting: &mut Waiting,
-) -> bool {
-    if waiting.is_empty() {
-        return false;
-    }
-    let Some(devices) = desk.devices(alloc) else {
-        return false;
-    };
-    let room = 64u32.saturating_sub(devices.bus.keys) as usize;
-    let keys = waiting.front(room);
-    if keys.is_empty() {
-        return false;
-    }
-    let count = keys.len();
-    let Ok(text) = Vec::from_slice(alloc, keys) else {
-        return false;
-    };
-    let text = Bytes::from_vec(text);
-    match desk.run_line(alloc, Line::Key { text }) {
-        Some(Answer::Done) => {
-            waiting.drop_front(count);
-            true
-        }
-        _ => false,
     }
 }
 
@@ -196,28 +156,25 @@ fn next_turns(course: &Course, made: u64, most: u32) -> u32 {
     }
 }
 
-/// The line of a slice of so many turns.
-fn slice_line<A: Allocator>(course: &Course, turns: u32) -> Line<A>
-    ensures { is_of_run result ≡ true }
-{
-    if course.until_idle || course.turns.is_none() {
-        Line::Continue { turns }
-    } else {
-        Line::Step { turns }
-    }
-}
-
 /// Makes the next slice.
-fn make_slice<A: Allocator + Copy, S: Store, T: Write, L: Write, O: Opening, W: Write>(
+fn make_slice<
+    A: Allocator + Copy,
+    S: Store,
+    T: Write,
+    L: Write,
+    O: Opening,
+    W: Write,
+    K: Keyboard + Drop,
+>(
     alloc: A,
-    desk: &mut Desk<A, S, T, L, O, W>,
+    desk: &mut Desk<A, S, T, L, O, W, K>,
     course: &Course,
     most: u32,
     run: &mut Run,
 ) -> Slice {
     let turns = next_turns(course, run.turns, most);
-    let line = slice_line(course, turns);
-    match desk.run_line(alloc, line) {
+    let until_idle = course.until_idle || course.turns.is_none();
+    match desk.make_turns(alloc, turns, until_idle) {
         Some(
             Answer::Stop {
                 typed,
@@ -259,13 +216,11 @@ pub(crate) fn make_run<
     T: Write,
     L: Write,
     O: Opening,
-    K: Keyboard,
     W: Write,
+    K: Keyboard + Drop,
 >(
     alloc: A,
-    input: &mut Input<K>,
-    console: &mut Console<Desk<A, S, T, L, O, W>>,
-    waiting: &mut Waiting,
+    console: &mut Console<Desk<A, S, T, L, O, W, K>>,
     course: &Course,
     run: &mut Run,
 ) -> End {
@@ -273,16 +228,16 @@ pub(crate) fn make_run<
     let mut stuck = 0u32;
     for _ in 0..u64::MAX {
         let found = if stuck < PATIENCE {
-            ask_keyboard(course, input, waiting, is_quiet)
+            ask_keyboard(course, &mut console.writer.inner, is_quiet)
         } else {
-            drop_keys(input, console)
+            drop_keys(console)
         };
         match found {
             Look::Escaped => return End::Escaped,
             Look::Ended => return End::Ended,
             Look::Pressed | Look::Nothing => {}
         }
-        let is_pressed = press(alloc, &mut console.writer.inner, waiting);
+        let is_pressed = console.writer.inner.press(alloc);
         let most = if is_pressed {
             course.slice.min(KEY_TURNS)
         } else {
@@ -294,16 +249,16 @@ pub(crate) fn make_run<
             Slice::Went(has_typed) => is_quiet = !has_typed,
             Slice::Idle => {
                 is_quiet = true;
-                if input.is_terminal()
+                if console.writer.inner.is_terminal()
                     && !is_pressed
-                    && (found == Look::Nothing || waiting.is_full())
+                    && (found == Look::Nothing || console.writer.inner.is_full())
                 {
-                    input.pause();
+                    console.writer.inner.pause();
                 }
             }
             Slice::End(end) => return end,
         }
-        stuck = if is_pressed || !is_stuck(input.is_terminal(), waiting, is_idle) {
+        stuck = if is_pressed || !is_stuck(&console.writer.inner, is_idle) {
             0
         } else {
             stuck.saturating_add(1)
@@ -314,11 +269,19 @@ pub(crate) fn make_run<
 
 /// Whether keys wait that perhaps nobody will take: at a terminal all that there is room for; elsewhere some, of a
 /// machine that idles.
-fn is_stuck(is_terminal: bool, waiting: &Waiting, is_idle: bool) -> bool {
-    if is_terminal {
-        waiting.is_full()
+fn is_stuck<
+    A: Allocator + Copy,
+    S: Store,
+    T: Write,
+    L: Write,
+    O: Opening,
+    W: Write,
+    K: Keyboard + Drop,
+>(desk: &Desk<A, S, T, L, O, W, K>, is_idle: bool) -> bool {
+    if desk.is_terminal() {
+        desk.is_full()
     } else {
-        is_idle && !waiting.is_empty()
+        is_idle && desk.has_waiting()
     }
 }
 

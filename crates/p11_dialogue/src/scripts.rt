@@ -11,7 +11,7 @@ use std::alloc::Allocator;
 use std::io::Write;
 
 /// The most bytes of a line, without its end.
-const MOST_BYTES: usize = 4096;
+pub(crate) const MOST_BYTES: usize = 4096;
 
 impl<
     A: Allocator + Copy,
@@ -75,6 +75,7 @@ impl<
         if line.len() > MOST_BYTES {
             self.refuse(line, Fault::BadLine, Origin::Script(place));
         } else if !is_silent(line) {
+            self.console.writer.inner.begin(line);
             self.obey(line, Origin::Script(place));
         }
     }

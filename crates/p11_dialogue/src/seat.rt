@@ -1,11 +1,11 @@
 // The console, and all that stands on it.
-ghost use Rattle.std.specs.Prelude.{List};
-ghost use Rattle.p11_dialogue.specs.Deeds.{Deed, Dialogue, scene};
+ghost use Rattle.std.specs.Prelude.{ℕ, Option, List};
+ghost use Rattle.p11_dialogue.specs.Deeds.{Deed, Dialogue, Given, KeyboardState, scene};
 
 use crate::console::Console;
 use crate::desk::{Desk, Ending, Opening, Parting};
 use crate::host::Host;
-use crate::keyboard::{Input, Keyboard, Waiting};
+use crate::keyboard::Keyboard;
 use crate::names::Names;
 use crate::unsaved::SavedPacks;
 use p11_panel::Store;
@@ -30,15 +30,22 @@ pub struct Wish<'a> {
 }
 
 /// The console, and all that stands on it.
-pub(crate) struct Seat<A: Allocator, S: Store, T: Write, L: Write, O: Opening, K, W: Write, E> {
+pub(crate) struct Seat<
+    A: Allocator,
+    S: Store,
+    T: Write,
+    L: Write,
+    O: Opening,
+    K: Keyboard,
+    W: Write,
+    E,
+> {
     pub(crate) alloc: A,
-    pub(crate) input: Input<K>,
     /// What it says goes through the desk, which has it among the deeds.
-    pub(crate) console: Console<Desk<A, S, T, L, O, W>>,
+    pub(crate) console: Console<Desk<A, S, T, L, O, W, K>>,
     /// For what is said of a script that nobody watches.
     pub(crate) errors: Console<W>,
     pub(crate) host: E,
-    pub(crate) waiting: Waiting,
     pub(crate) saved: SavedPacks<A>,
     /// The files that were saved.
     pub(crate) written: Names<A>,
@@ -70,18 +77,15 @@ impl<
 > Seat<A, S, T, L, O, K, W, E> {
     pub(crate) fn new(
         alloc: A,
-        input: Input<K>,
-        (desk, errors): (Desk<A, S, T, L, O, W>, W),
+        (desk, errors): (Desk<A, S, T, L, O, W, K>, W),
         host: E,
         wish: &Wish<'_>,
     ) -> Self {
         Seat {
             alloc,
-            input,
             console: Console::new(desk),
             errors: Console::new(errors),
             host,
-            waiting: Waiting::new(),
             saved: SavedPacks::new(alloc),
             written: Names::new(alloc),
             unwritten: Names::new(alloc),
@@ -100,15 +104,15 @@ impl<
     pub(crate) fn part(self) -> Parting<A, S, T, L, W>
         ensures { (deeds : List (Deed A)) × Dialogue deeds result.is_screen_torn result.is_journal_torn
             result.is_console_torn O.opening (scene result.station.panel (S.state result.station.store)
-            (T.contents result.station.screen) (L.contents result.station.journal) (W.contents result.console)) }
+            (T.contents result.station.screen) (L.contents result.station.journal) (W.contents result.console))
+            × (waiting : List ℕ) × (text : Option (List ℕ)) × (left : KeyboardState)
+            × Given deeds waiting text O.keyboard left }
     {
         let Seat {
             alloc: _,
-            input,
             console,
             errors,
             host: _,
-            waiting: _,
             saved: _,
             written: _,
             unwritten: _,
@@ -124,10 +128,14 @@ impl<
         let is_console_torn = console.is_torn() || errors.is_torn();
         console.into_inner().part(Ending {
             is_console_torn,
-            has_read_fault: input.has_failed(),
             has_refused,
             lacks_script,
         })
+    }
+
+    /// Whether a person sits at the keyboard.
+    pub(crate) fn is_terminal(&self) -> bool {
+        self.console.writer.inner.is_terminal()
     }
 
     /// Whether no writer has failed.

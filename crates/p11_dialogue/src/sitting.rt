@@ -33,14 +33,14 @@ impl<
             slice: self.slice,
             turns: Some(turns),
             until_idle,
-            has_keys: self.input.is_terminal(),
+            has_keys: self.is_terminal(),
         };
         self.run(&course, origin);
     }
 
     /// Sits at the machine's terminal.
     pub(crate) fn talk(&mut self) -> Next {
-        if self.input.is_terminal() && !self.is_told {
+        if self.is_terminal() && !self.is_told {
             self.is_told = true;
             self.console.say("(Ctrl-E comes back to the console.)\n");
         }
@@ -64,14 +64,7 @@ impl<
             pc: 0,
             last: None,
         };
-        let end = make_run(
-            self.alloc,
-            &mut self.input,
-            &mut self.console,
-            &mut self.waiting,
-            course,
-            &mut run,
-        );
+        let end = make_run(self.alloc, &mut self.console, course, &mut run);
         if run.last.is_some() && run.last != Some(b'\n') {
             self.console.say("\n");
         }

@@ -40,13 +40,7 @@ impl<
 
     /// Does the next line that a person types.
     fn do_next(&mut self, typist: &mut Typist<A>, place: &mut Place) -> Next {
-        let is_typed = type_line(
-            self.alloc,
-            &mut self.input,
-            &mut self.console,
-            &mut self.host,
-            typist,
-        );
+        let is_typed = type_line(self.alloc, &mut self.console, &mut self.host, typist);
         if is_typed {
             self.do_typed(place, typist.text())
         } else {
@@ -61,7 +55,10 @@ impl<
             Ok(phrase) => {
                 *place = phrase.place;
                 match &phrase.lines {
-                    None => self.do_line(typed),
+                    None => {
+                        self.console.writer.inner.begin(typed);
+                        self.do_line(typed)
+                    }
                     Some(lines) => self.do_meant(lines.as_slice()),
                 }
             }
@@ -80,6 +77,7 @@ impl<
             self.console.say("= ");
             self.console.put(line);
             self.console.say("\n");
+            self.console.writer.inner.begin(line);
             let next = self.do_line(line);
             if next != Next::Line {
                 return next;

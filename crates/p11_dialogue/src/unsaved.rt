@@ -1,5 +1,6 @@
 // Packs whose last state no file has.
 use crate::desk::{Desk, Opening};
+use crate::keyboard::Keyboard;
 use p11_panel::{Bytes, Devices, Line, Store};
 use std::alloc::Allocator;
 use std::io::Write;
@@ -35,10 +36,10 @@ impl<A: Allocator + Copy> SavedPacks<A> {
     }
 
     /// A drive was saved: keeps what it holds. Where there is no memory for that, the pack counts as not saved.
-    pub(crate) fn note<S: Store, T: Write, L: Write, O: Opening, W: Write>(
+    pub(crate) fn note<S: Store, T: Write, L: Write, O: Opening, W: Write, K: Keyboard + Drop>(
         &mut self,
         alloc: A,
-        desk: &mut Desk<A, S, T, L, O, W>,
+        desk: &mut Desk<A, S, T, L, O, W, K>,
         drive: u32,
     ) {
         self.forget(drive);
@@ -62,10 +63,10 @@ impl<A: Allocator + Copy> SavedPacks<A> {
     }
 
     /// Whether the pack on a drive, of which sectors were written since it was mounted, is as it was saved.
-    fn has_saved<S: Store, T: Write, L: Write, O: Opening, W: Write>(
+    fn has_saved<S: Store, T: Write, L: Write, O: Opening, W: Write, K: Keyboard + Drop>(
         &self,
         alloc: A,
-        desk: &mut Desk<A, S, T, L, O, W>,
+        desk: &mut Desk<A, S, T, L, O, W, K>,
         drive: u32,
     ) -> bool {
         for saved in self.packs.as_slice() {
@@ -80,10 +81,17 @@ impl<A: Allocator + Copy> SavedPacks<A> {
     }
 
     /// Whether the pack on a drive has sectors that no file has.
-    pub(crate) fn is_unsaved<S: Store, T: Write, L: Write, O: Opening, W: Write>(
+    pub(crate) fn is_unsaved<
+        S: Store,
+        T: Write,
+        L: Write,
+        O: Opening,
+        W: Write,
+        K: Keyboard + Drop,
+    >(
         &self,
         alloc: A,
-        desk: &mut Desk<A, S, T, L, O, W>,
+        desk: &mut Desk<A, S, T, L, O, W, K>,
         devices: &Devices,
         drive: u32,
     ) -> bool {

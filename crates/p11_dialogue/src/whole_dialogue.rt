@@ -1,6 +1,6 @@
 // A whole dialogue.
-ghost use Rattle.std.specs.Prelude.{◌≡◌, List};
-ghost use Rattle.p11_dialogue.specs.Deeds.{Deed, Dialogue, scene};
+ghost use Rattle.std.specs.Prelude.{◌≡◌, ℕ, Option, List};
+ghost use Rattle.p11_dialogue.specs.Deeds.{Deed, Dialogue, Given, KeyboardState, scene};
 
 use crate::desk::{Desk, Opening, Parting};
 use crate::host::Host;
@@ -26,6 +26,11 @@ pub struct Person<K, W, E> {
 /// record the lines that were done, with the turns that were really made; the console the answers to lines, each of
 /// those that the machine gave, and between them what else was said: refusals and runs. Of a writer that failed or took
 /// nothing the bytes are a front of these, and nothing was done after it.
+///
+/// What it takes from the keyboard are the bytes that this gives, in order, none left out and none twice: lines, or keys for
+/// the machine, or a person's keys for the program, or Ctrl-E, or keys that the machine doesn't take. In a run the machine is
+/// given the keys that are taken for it, in order, but for the last, which wait. A line that is tried is what the text is
+/// that was taken, or begun, last; and of one text a line is tried once at most.
 pub fn converse<
     A: Allocator + Copy,
     S: Store,
@@ -65,11 +70,15 @@ fn converse_from<
     person: Person<K, W, E>,
     wish: &Wish<'_>,
 ) -> Parting<A, S, T, L, W>
-    requires { scene station.panel (S.state station.store) (T.contents station.screen) (L.contents station.journal)
-        (W.contents person.console) ≡ O.opening }
+    requires opening { scene station.panel (S.state station.store) (T.contents station.screen)
+        (L.contents station.journal) (W.contents person.console) ≡ O.opening }
+    requires keyboard { record { left = K.remaining person.keyboard; is_terminal = K.terminal person.keyboard }
+        ≡ O.keyboard }
     ensures { (deeds : List (Deed A)) × Dialogue deeds result.is_screen_torn result.is_journal_torn
         result.is_console_torn O.opening (scene result.station.panel (S.state result.station.store)
-        (T.contents result.station.screen) (L.contents result.station.journal) (W.contents result.console)) }
+        (T.contents result.station.screen) (L.contents result.station.journal) (W.contents result.console))
+        × (waiting : List ℕ) × (text : Option (List ℕ)) × (left : KeyboardState)
+        × Given deeds waiting text O.keyboard left }
 {
     let Person {
         keyboard,
@@ -77,8 +86,9 @@ fn converse_from<
         errors,
         host,
     } = person;
-    let desk: Desk<A, S, T, L, O, W> = Desk::new(station, console);
-    let mut seat = Seat::new(alloc, Input::new(keyboard), (desk, errors), host, wish);
+    let input = Input::new(keyboard);
+    let desk: Desk<A, S, T, L, O, W, K> = Desk::new(station, console, input);
+    let mut seat = Seat::new(alloc, (desk, errors), host, wish);
     seat.hold(wish.script, wish.is_talk);
     seat.part()
 }

@@ -2,3 +2,4 @@
 pub mod OutcomeLemmas
 pub mod RunLemmas
 pub mod RecordLemmas
+pub mod ScriptLemmas

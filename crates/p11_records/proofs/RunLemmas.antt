@@ -20,6 +20,7 @@ use Rattle.p11_panel.specs.Commands.{outcome, turns_in, CommandStep}
 use Rattle.p11_panel.specs.Refusals.{unless}
 use Rattle.p11_panel.specs.Runs.{step_fault, last_halted, ends_after, turns_made, reason_of, stopped, whole_run}
 use Rattle.p11_panel.specs.Session.{Obeys}
+use Rattle.p11_panel.proofs.RunLemmas.{turns_after}
 use Rattle.p11_panel.proofs.RunOutcomes.{run_steps, stopped_as}
 use Rattle.p11_records.specs.Again.{RunsAreMadeAgain, TwoStepsAreOne}
 use Rattle.p11_records.proofs.OutcomeLemmas.{comes_to, no_other, no_stop}
@@ -214,15 +215,6 @@ made_again A (lines.Key text) typed reason turns pc s s' of_run h some =
 made_again A line typed reason turns pc s s' of_run h some = cc
 
 -- TWO STEPS ARE ONE
-
-turns_after : (j k : ℕ) (s : State) → after_turns j (after_turns k s) ≡ after_turns (k + j) s
-unfolding after_turns
-turns_after zero k s =
-    let none : k ≡ k + 0 = omega arith in
-    ap (λ n. after_turns n s) none
-turns_after (suc j) k s =
-    let number : suc (k + j) ≡ k + suc j = omega arith in
-    ap (λ x. (turn_of x).0) (turns_after j k s) ∙ ap (λ n. after_turns n s) number
 
 -- the last of some turns
 last_of : (j : ℕ) (s : State) → last_halted (suc j) s ≡ (after_turns (suc j) s).processor.halted

@@ -1,5 +1,5 @@
 -- A record does again what was done.
-use Rattle.std.specs.Prelude.{◌≡◌, ◌≢◌, ℕ, ◌+◌, ◌<◌, true, false, List, [], ◌∷◌, All, ⊤}
+use Rattle.std.specs.Prelude.{◌≡◌, ◌≢◌, ◌↔◌, ℕ, ◌+◌, ◌<◌, ◌≤◌, true, false, List, [], ◌∷◌, length, Some, All, ⊤}
 use Rattle.std.specs.List.{flat_map}
 use Rattle.p11_lines.specs.declared.answer.Answer.{Answer}
 use Rattle.p11_lines.specs.declared.answer.Answer.TheVariants as answers
@@ -8,10 +8,12 @@ use Rattle.p11_lines.specs.declared.answer.StopReason.TheVariants as reasons
 use Rattle.p11_lines.specs.declared.fault.Fault.TheVariants.{StoreFault}
 use Rattle.p11_lines.specs.declared.line.Line.{Line}
 use Rattle.p11_lines.specs.declared.line.Line.TheVariants as lines
+use Rattle.p11_lines.specs.Calls.LineText.{line_text, FitsGrammar}
 use Rattle.p11_cpu.specs.State.{State}
 use Rattle.p11_panel.specs.Calls.Runs.{IsRun, stops_idling}
-use Rattle.p11_panel.specs.Session.{SessionState, Obeys}
-use Rattle.p11_dialogue.specs.Deeds.{Deed, Tried, Ran, Asked, Said, Happen, ended, is_of_run, recorded_of, typed_by, typed_in}
+use Rattle.p11_panel.specs.Script.{script_lines}
+use Rattle.p11_panel.specs.Session.{SessionState, Obeys, Asks, LineDoes, LinesRun}
+use Rattle.p11_dialogue.specs.Deeds.{Deed, Tried, Ran, Happen, ended, is_of_run, recorded_of, typed_by, typed_in}
 
 -- A run that made some turns is made again by STEP with just these, whatever line asked for it: it comes to the same
 -- state, and types the same.
@@ -46,8 +48,7 @@ pub record IsRepeatable {A : Type 0} (line : Line A) (answer : Answer A) : Type 
 abbrev pub Repeatable : {A : Type 0} → Deed A → Type 0
 Repeatable (Tried line answer) = IsRepeatable line answer
 Repeatable (Ran line answer) = IsRepeatable line answer
-Repeatable (Asked name) = ⊤
-Repeatable (Said text) = ⊤
+Repeatable _ = ⊤
 
 -- The record of deeds is the text of lines that, over a session that begins alike, type the same bytes and end alike.
 abbrev pub RecordsDoAgain : Type 0 → Type 0
@@ -56,3 +57,20 @@ RecordsDoAgain A =
     → (again : List (Line A × Answer A)) × (t' : SessionState) × Obey again t t' × Alike s' t'
     × (flat_map (λ done. ended done.0) again ≡ flat_map recorded_of deeds)
     × (flat_map (λ done. typed_in done.1) again ≡ flat_map typed_by deeds)
+
+-- a line that a script can have: its numbers and names are of the grammar, and its text has at most 4,096 bytes
+abbrev pub IsOfScript : {A : Type 0} → Line A → Type 0
+IsOfScript line = FitsGrammar line × (length (line_text line) ≤ 4096)
+
+-- lines that a session asks for, one after another, with their answers
+unfoldable pub AreAsked : {A : Type 0} → List (Line A) → SessionState → List (Answer A) → SessionState → Type 0
+AreAsked [] s [] s' = s' ≡ s
+AreAsked (line ∷ lines) s (answer ∷ answers) s'' =
+    (s' : SessionState) × Asks (Some line) s answer s' × AreAsked lines s' answers s''
+AreAsked lines s answers s' = ⊥
+
+-- A session whose script is a record asks for the lines of the record, in order, and for nothing else.
+abbrev pub RecordsAreScripts : Type 0 → Type 0
+RecordsAreScripts A =
+    (lines : List (Line A)) (answers : List (Answer A)) (s s' : SessionState) → All IsOfScript lines
+    → LinesRun (LineDoes {A = A}) (script_lines (flat_map ended lines)) s answers s' ↔ AreAsked lines s answers s'

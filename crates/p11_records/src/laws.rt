@@ -1,5 +1,5 @@
 //! Laws of the record of a dialogue.
-ghost use Rattle.p11_records.specs.Again.{RecordsDoAgain, RunsAreMadeAgain, TwoStepsAreOne};
+ghost use Rattle.p11_records.specs.Again.{RecordsAreScripts, RecordsDoAgain, RunsAreMadeAgain, TwoStepsAreOne};
 
 use std::alloc::Allocator;
 
@@ -20,3 +20,9 @@ pub fn a_record_does_it_again<A: Allocator>()
 {
     a_run_is_made_again_by_its_turns::<A>();
 }
+
+/// A record is a script. What a session does with it are its lines, in order, each with the answer that it gets; reading
+/// one may find no memory.
+pub fn a_record_is_a_script<A: Allocator>()
+    ensures { RecordsAreScripts A }
+{}

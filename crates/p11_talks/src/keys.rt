@@ -45,6 +45,8 @@ impl Read for Keys<'_> {
 }
 
 impl Keyboard for Keys<'_> {
+    ghost terminal = { λ k. k.is_terminal };
+
     fn is_terminal(&self) -> bool {
         self.is_terminal
     }

@@ -37,6 +37,8 @@ impl Read for SystemKeyboard<'_> {
 }
 
 impl Keyboard for SystemKeyboard<'_> {
+    ghost terminal = { λ k. k.is_terminal };
+
     fn is_terminal(&self) -> bool {
         self.is_terminal
     }
