@@ -7,7 +7,7 @@ use Rattle.std.proofs.lemmas.List.Elements.{All-nil, All-cons, All-append}
 use Rattle.std.specs.Char.{digit_value}
 use Rattle.std.specs.Prelude.{option_and_then}
 use Rattle.p11_lines.specs.Escapes.{is_plain, escaped_byte, escaped}
-use Rattle.p11_lines.specs.Grammar.{is_blank, escape_from, bytes_past, bytes_from}
+use Rattle.p11_lines.specs.Grammar.{escape_from, bytes_past, bytes_from}
 use Rattle.p11_lines.proofs.Numbers.{Writes, number_from-Writes}
 
 bytes_past_all : (n : ℕ) (text : List ℕ) → bytes_past n text ≡ bytes_past 0 (drop n text)
@@ -77,29 +77,23 @@ bytes_from-escaped (byte ∷ bytes) small =
     bytes_from-escaped_byte byte (escaped bytes) (small 0 0 (omega arith))
     ∙ ap (option_and_then (λ (bytes : List ℕ). Some (byte ∷ bytes))) (bytes_from-escaped bytes (λ k d below. small (suc k) d (omega arith)))
 
--- no byte of it is a blank
-graph : (byte : ℕ) → 33 ≤ byte → is_blank byte ≡ false
-graph byte above = grind (arith, nat_tests)
-
-graphs_of-escaped_byte : (byte : ℕ) → All (λ b. is_blank b ≡ false) (escaped_byte byte)
+-- no byte of it is a blank or a control character
+graphs_of-escaped_byte : (byte : ℕ) → All (λ b. 33 ≤ b) (escaped_byte byte)
 unfolding escaped_byte
 graphs_of-escaped_byte byte =
-    let P : ℕ → Type 0 = λ b. is_blank b ≡ false in
+    let P : ℕ → Type 0 = λ b. 33 ≤ b in
     elim (cases_Bool (is_plain byte)) [
-      | inl plain ↦ let above : 33 ≤ byte = grind (arith, nat_tests) in rw plain (All-cons P byte [] (graph byte above) (All-nil P))
+      | inl plain ↦ let above : 33 ≤ byte = grind (arith, nat_tests) in rw plain (All-cons P byte [] above (All-nil P))
       | inr not_plain ↦
-          let first = graph (48 + byte / 64) (omega arith) in
-          let second = graph (48 + byte / 8 % 8) (omega arith) in
-          let third = graph (48 + byte % 8) (omega arith) in
-          let last : All P ((48 + byte % 8) ∷ []) = All-cons P (48 + byte % 8) [] third (All-nil P) in
-          let later : All P ((48 + byte / 8 % 8) ∷ (48 + byte % 8) ∷ []) = All-cons P (48 + byte / 8 % 8) ((48 + byte % 8) ∷ []) second last in
-          let digits : All P ((48 + byte / 64) ∷ (48 + byte / 8 % 8) ∷ (48 + byte % 8) ∷ []) = All-cons P (48 + byte / 64) ((48 + byte / 8 % 8) ∷ (48 + byte % 8) ∷ []) first later in
-          rw not_plain (All-cons P 92 ((48 + byte / 64) ∷ (48 + byte / 8 % 8) ∷ (48 + byte % 8) ∷ []) refl digits)
+          let last : All P ((48 + byte % 8) ∷ []) = All-cons P (48 + byte % 8) [] (omega arith) (All-nil P) in
+          let later : All P ((48 + byte / 8 % 8) ∷ (48 + byte % 8) ∷ []) = All-cons P (48 + byte / 8 % 8) ((48 + byte % 8) ∷ []) (omega arith) last in
+          let digits : All P ((48 + byte / 64) ∷ (48 + byte / 8 % 8) ∷ (48 + byte % 8) ∷ []) = All-cons P (48 + byte / 64) ((48 + byte / 8 % 8) ∷ (48 + byte % 8) ∷ []) (omega arith) later in
+          rw not_plain (All-cons P 92 ((48 + byte / 64) ∷ (48 + byte / 8 % 8) ∷ (48 + byte % 8) ∷ []) (omega arith) digits)
     ]
 
-pub graphs_of-escaped : (bytes : List ℕ) → All (λ b. is_blank b ≡ false) (escaped bytes)
-graphs_of-escaped [] = All-nil (λ b. is_blank b ≡ false)
-graphs_of-escaped (byte ∷ bytes) = All-append (λ b. is_blank b ≡ false) (escaped_byte byte) (escaped bytes) (graphs_of-escaped_byte byte) (graphs_of-escaped bytes)
+pub graphs_of-escaped : (bytes : List ℕ) → All (λ b. 33 ≤ b) (escaped bytes)
+graphs_of-escaped [] = All-nil (λ b. 33 ≤ b)
+graphs_of-escaped (byte ∷ bytes) = All-append (λ b. 33 ≤ b) (escaped_byte byte) (escaped bytes) (graphs_of-escaped_byte byte) (graphs_of-escaped bytes)
 
 some-escaped_byte : (byte : ℕ) → 0 < length (escaped_byte byte)
 unfolding escaped_byte

@@ -8,7 +8,7 @@ use Rattle.std.proofs.lemmas.Bool.Decides.{nat_tests}
 use Rattle.std.proofs.lemmas.Fmt.{digits_is_IsNumeral, decimal_is_IsNumeral, length-decimal-le}
 use Rattle.std.proofs.lemmas.List.Elements.{All-nil, All-cons}
 use Rattle.std.proofs.Math.Nat.{pow-suc}
-use Rattle.p11_lines.specs.Grammar.{is_blank, all_digits, number_from, count_from}
+use Rattle.p11_lines.specs.Grammar.{all_digits, number_from, count_from}
 use Rattle.p11_lines.specs.Calls.LineText.{octal, FitsCount}
 use Rattle.p11_lines.proofs.Numerals.{digit_value-is}
 
@@ -34,13 +34,11 @@ number_from-Writes base places greatest number text writes within =
     let fits : nat_le number greatest ≡ true = grind (arith, nat_tests) in
     rw (some, short, test_from-AllDigits base text writes.all, writes.value, fits) refl
 
--- no digit is a blank
-pub graphs_from-AllDigits : (base : ℕ) (text : List ℕ) → base ≤ 10 → AllDigits base text → All (λ byte. is_blank byte ≡ false) text
-graphs_from-AllDigits base [] high all = All-nil (λ byte. is_blank byte ≡ false)
+-- no digit is a blank or a control character
+pub graphs_from-AllDigits : (base : ℕ) (text : List ℕ) → base ≤ 10 → AllDigits base text → All (λ byte. 33 ≤ byte) text
+graphs_from-AllDigits base [] high all = All-nil (λ byte. 33 ≤ byte)
 graphs_from-AllDigits base (digit ∷ text) high all =
-    let from_48 = (digit_value-is base digit high all.0).0 in
-    let here : is_blank digit ≡ false = grind (arith, nat_tests, from_48) in
-    All-cons (λ byte. is_blank byte ≡ false) digit text here (graphs_from-AllDigits base text high all.1)
+    All-cons (λ byte. 33 ≤ byte) digit text (omega (arith, (digit_value-is base digit high all.0).0)) (graphs_from-AllDigits base text high all.1)
 
 -- a number below 8 ^ k has k octal digits at most
 length-digits_onto : (fuel k number : ℕ) (after : List ℕ) → number < 8 ^ suc k → length (digits_onto fuel 8 false number after) ≤ length after + suc k

@@ -1,9 +1,10 @@
 -- The text of a line reads as the line.
-use Rattle.std.proofs.Common.{◌≡◌, ℕ, suc, get_or, ◌<◌, ◌≤◌, Bool, true, false, not, ◌&&◌, nat_lt, nat_le, List, [], ◌∷◌, length, map, refl, ap, ◌∙◌, arith, Some, All, codes}
+use Rattle.std.proofs.Common.{◌≡◌, ℕ, suc, get_or, ◌<◌, ◌≤◌, Bool, true, false, ◌&&◌, nat_lt, nat_le, List, [], ◌∷◌, length, map, refl, ap, ◌∙◌, arith, Some, All, codes}
 use Rattle.std.specs.List.{list_all}
 use Rattle.std.specs.Fmt.{decimal}
-use Rattle.std.proofs.lemmas.Bool.{not-true, and_parts, ltb-true}
+use Rattle.std.proofs.lemmas.Bool.{and_parts, ltb-true, leb-true}
 use Rattle.std.proofs.lemmas.Bool.Decides.{nat_tests}
+use Rattle.std.proofs.lemmas.List.Elements.{All-nil, All-cons, All-append}
 use Rattle.std.proofs.lemmas.List.Sums.{AllPass-from_list_all}
 use Rattle.p11_lines.specs.declared.line.Line.{Line}
 use Rattle.p11_lines.specs.declared.line.Line.TheVariants.{Mount, Unmount, Save, Changed, Load, Examine, Deposit, Start, Key, Tick, Clock, Switches, Set, Step, Continue, Regs, Device, Flush}
@@ -14,9 +15,15 @@ use Rattle.p11_lines.proofs.Escapes.{bytes_from-escaped, graphs_of-escaped, some
 use Rattle.p11_lines.proofs.Parts.{words_of-nil, words_of-word, words_of-last}
 use Rattle.p11_lines.proofs.Numbers.{number_from-Writes, graphs_from-AllDigits, octal-Writes, decimal-Writes, count_from-decimal}
 
--- a word of a text: some bytes, and no blank among them
+-- a word of a text: some bytes, and no blank or control character among them
 abbrev IsPart : List ℕ → Type 0
-IsPart word = All (λ byte. is_blank byte ≡ false) word × (0 < length word)
+IsPart word = All (λ byte. 33 ≤ byte) word × (0 < length word)
+
+graph : (byte : ℕ) → 33 ≤ byte → is_blank byte ≡ false
+graph byte above = grind (arith, nat_tests)
+
+graphs : (word : List ℕ) → IsPart word → All (λ byte. is_blank byte ≡ false) word
+graphs word part = λ k d below. graph (get_or word k d) (part.0 k d below)
 
 abbrev AreParts : List (List ℕ) → Type 0
 AreParts [] = Unit {0}
@@ -25,9 +32,9 @@ AreParts (word ∷ words) = IsPart word × AreParts words
 -- the words of a text of such words
 words_of-with_spaces : (words : List (List ℕ)) → AreParts words → words_of (with_spaces words) ≡ words
 words_of-with_spaces [] parts = words_of-nil
-words_of-with_spaces (word ∷ []) parts = words_of-last word parts.0.0 parts.0.1
+words_of-with_spaces (word ∷ []) parts = words_of-last word (graphs word parts.0) parts.0.1
 words_of-with_spaces (word ∷ next ∷ rest) parts =
-    words_of-word word 32 (with_spaces (next ∷ rest)) parts.0.0 parts.0.1 refl
+    words_of-word word 32 (with_spaces (next ∷ rest)) (graphs word parts.0) parts.0.1 refl
     ∙ ap (λ (ws : List (List ℕ)). word ∷ ws) (words_of-with_spaces (next ∷ rest) parts.1)
 
 -- a number in octal or decimal is one word, and reads as itself
@@ -60,16 +67,16 @@ all_words_from-octal [] small = refl
 all_words_from-octal (word ∷ words) small =
     rw (word_from-octal word (small 0 0 (omega arith)), all_words_from-octal words (λ k d below. small (suc k) d (omega arith))) refl
 
--- a word that is spelled out has no blank, which a test tells
-spelled : (word : List ℕ) → list_all (λ byte. not (is_blank byte)) word ≡ true → 0 < length word → IsPart word
-spelled word test some = (λ k d below. not-true _ (AllPass-from_list_all (λ byte. not (is_blank byte)) word test k d below), some)
+-- a word that is spelled out is one, which a test tells
+spelled : (word : List ℕ) → list_all (nat_le 33) word ≡ true → 0 < length word → IsPart word
+spelled word test some = (λ k d below. leb-true _ _ (AllPass-from_list_all (nat_le 33) word test k d below), some)
 
 -- a name reads as itself, and has no blank
 name_from-name : (name : List ℕ) → is_name name ≡ true → name_from name ≡ Some name
 unfolding name_from
 name_from-name name named = rw named refl
 
-graph_of-graphic : (byte : ℕ) → is_graphic byte ≡ true → is_blank byte ≡ false
+graph_of-graphic : (byte : ℕ) → is_graphic byte ≡ true → 33 ≤ byte
 graph_of-graphic byte graphic = grind (arith, nat_tests)
 
 name-part : (name : List ℕ) → is_name name ≡ true → IsPart name
@@ -117,6 +124,18 @@ reads (Continue turns) fits = ((spelled (codes "continue") refl (omega arith), (
 reads Regs fits = ((spelled (codes "regs") refl (omega arith), tt), refl)
 reads Device fits = ((spelled (codes "device") refl (omega arith), tt), refl)
 reads Flush fits = ((spelled (codes "flush") refl (omega arith), tt), refl)
+
+-- no byte of a text of such words is a control character
+visible : (words : List (List ℕ)) → AreParts words → All (λ byte. 32 ≤ byte) (with_spaces words)
+visible [] parts = All-nil (λ byte. 32 ≤ byte)
+visible (word ∷ []) parts = λ k d below. omega (arith, parts.0.0 k d below)
+visible (word ∷ next ∷ rest) parts =
+    All-append (λ byte. 32 ≤ byte) word (32 ∷ with_spaces (next ∷ rest)) (λ k d below. omega (arith, parts.0.0 k d below))
+    (All-cons (λ byte. 32 ≤ byte) 32 (with_spaces (next ∷ rest)) (omega arith) (visible (next ∷ rest) parts.1))
+
+pub visible-line_text : {A : Type 0} (line : Line A) → FitsGrammar line → All (λ byte. 32 ≤ byte) (line_text line)
+unfolding line_text
+visible-line_text line fits = visible (line_words line) (reads line fits).0
 
 pub line_from-line_text : {A : Type 0} (line : Line A) → FitsGrammar line → length (line_text line) ≤ 4096 → line_from (line_text line) ≡ Some line
 unfolding line_text line_from

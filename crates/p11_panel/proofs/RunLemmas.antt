@@ -144,7 +144,7 @@ needs_by {T} false (Err e) needless failed = absurd (err_not_ok T e (needless re
 
 -- MANY TURNS AT ONCE
 
-turns_after : (j k : ℕ) (s : State) → after_turns j (after_turns k s) ≡ after_turns (k + j) s
+pub turns_after : (j k : ℕ) (s : State) → after_turns j (after_turns k s) ≡ after_turns (k + j) s
 unfolding after_turns
 turns_after zero k s =
     let none : k ≡ k + 0 = omega arith in

@@ -1,9 +1,9 @@
 // Sizes, and commands that no line gives.
 use crate::ballast::{Ballast, MOST_TRIES};
-use crate::case::Places;
+use crate::case::{Places, sizes};
 use linked_list_allocator::LocalHeap;
 use p11_lines::{StdWriter, put_answer};
-use p11_panel::{Answer, Bytes, Command, Config, Fault, Panel, Words, play};
+use p11_panel::{Answer, Command, Config, Fault, Panel, Words, play};
 use p11_test_data::{Wrong, bad_line, same, text_of};
 use std::alloc::{AllocError, Allocator, Global};
 
@@ -32,22 +32,6 @@ pub(crate) fn judge_sizes(alloc: Global) -> Result<(), Wrong> {
     Ok(())
 }
 
-/// The smallest machine without decoded words.
-pub(crate) fn small(alloc: Global) -> Result<Config, Wrong> {
-    match Config::new(4, 0) {
-        Ok(config) => Ok(config),
-        Err(_) => Err(bad_line(alloc, "4 0")),
-    }
-}
-
-/// The machine of a script that asks for no sizes: 28 thousand words and 1,024 decoded words.
-pub(crate) fn usual(alloc: Global) -> Result<Config, Wrong> {
-    match Config::new(28, 1024) {
-        Ok(config) => Ok(config),
-        Err(_) => Err(bad_line(alloc, "28 1024")),
-    }
-}
-
 /// The text of an answer.
 fn text<A: Allocator>(alloc: Global, answer: &Answer<A>) -> Result<String, Wrong> {
     let mut text = Vec::new(alloc);
@@ -57,88 +41,159 @@ fn text<A: Allocator>(alloc: Global, answer: &Answer<A>) -> Result<String, Wrong
     }
 }
 
-/// A command, and its answer.
-#[derive(Drop)]
-struct Asked {
-    command: Command,
-    answer: &'static str,
+/// A command with numbers that no line can have: none, and addresses of more than 18 bits.
+enum Odd {
+    Examine { address: u32, count: u32 },
+    /// Of so many words.
+    Deposit { address: u32, count: u16 },
+    Step { turns: u32 },
+    Continue { turns: u32 },
+    Set { register: u16, value: u16 },
+    Save,
+    Regs,
 }
 
-/// A deposit of two words. The I/O page is 760000 to 777777, and a range that touches it is too many; a range beyond it
-/// answers nowhere.
-fn two_words(alloc: Global, address: u32) -> Result<Command, AllocError> {
-    let words = Words::from_vec(Vec::from_slice(alloc, &[1, 2])?);
-    Ok(Command::Deposit { address, words })
+/// Such commands, one after another, and their answers. The I/O page is 760000 to 777777, and a range that touches it is
+/// too many; a range beyond it answers nowhere.
+static ODD: [(Odd, &str); 18] = [
+    (
+        Odd::Examine {
+            address: 0o1000,
+            count: 0,
+        },
+        "? 10 TooMany\n",
+    ),
+    (
+        Odd::Deposit {
+            address: 0o1000,
+            count: 0,
+        },
+        "? 10 TooMany\n",
+    ),
+    (Odd::Step { turns: 0 }, "? 10 TooMany\n"),
+    (Odd::Continue { turns: 0 }, "? 10 TooMany\n"),
+    (Odd::Step { turns: 100_000_001 }, "? 10 TooMany\n"),
+    (
+        Odd::Set {
+            register: 0o12,
+            value: 0,
+        },
+        "? 11 BadRegister\n",
+    ),
+    (
+        Odd::Examine {
+            address: 0o777_777_776,
+            count: 2,
+        },
+        "? 6 NoAnswer\n",
+    ),
+    (
+        Odd::Examine {
+            address: 0o37_777_777_776,
+            count: 512,
+        },
+        "? 6 NoAnswer\n",
+    ),
+    (
+        Odd::Deposit {
+            address: 0o757_774,
+            count: 2,
+        },
+        "? 6 NoAnswer\n",
+    ),
+    (
+        Odd::Deposit {
+            address: 0o757_776,
+            count: 2,
+        },
+        "? 10 TooMany\n",
+    ),
+    (
+        Odd::Deposit {
+            address: 0o777_776,
+            count: 2,
+        },
+        "? 10 TooMany\n",
+    ),
+    (
+        Odd::Deposit {
+            address: 0o777_777,
+            count: 2,
+        },
+        "? 10 TooMany\n",
+    ),
+    (
+        Odd::Deposit {
+            address: 0o1_000_000,
+            count: 2,
+        },
+        "? 6 NoAnswer\n",
+    ),
+    (
+        Odd::Deposit {
+            address: 0o1_000_001,
+            count: 2,
+        },
+        "? 5 OddAddress\n",
+    ),
+    (
+        Odd::Deposit {
+            address: 0o37_777_777_776,
+            count: 2,
+        },
+        "? 6 NoAnswer\n",
+    ),
+    (Odd::Save, "? 2 DriveEmpty\n"),
+    (
+        Odd::Set {
+            register: 7,
+            value: 0o1000,
+        },
+        "OK\n",
+    ),
+    (
+        Odd::Regs,
+        "REGS 000000 000000 000000 000000 000000 000000\nSP 000000 000000 PC 001000 PS 000000\nTURN 0 ready\n",
+    ),
+];
+
+/// The command itself.
+fn command(alloc: Global, odd: &Odd) -> Result<Command, AllocError> {
+    Ok(match *odd {
+        Odd::Examine { address, count } => Command::Examine { address, count },
+        Odd::Deposit { address, count } => deposit(alloc, address, count)?,
+        Odd::Step { turns } => Command::Step { turns },
+        Odd::Continue { turns } => Command::Continue { turns },
+        Odd::Set { register, value } => Command::Set { register, value },
+        Odd::Save => Command::Save { drive: 0 },
+        Odd::Regs => Command::Regs,
+    })
 }
 
-/// Numbers that no line can have: none, and addresses of more than 18 bits.
-fn odd_commands(alloc: Global) -> Result<Vec<Asked>, AllocError> {
-    let words = Words::from_vec(Vec::new(alloc));
-    let address = 0o1000;
-    let last = 0o37_777_777_776;
-    let mut asked = Vec::new(alloc);
-    for (command, answer) in [
-        (Command::Examine { address, count: 0 }, "? 10 TooMany\n"),
-        (Command::Deposit { address, words }, "? 10 TooMany\n"),
-        (Command::Step { turns: 0 }, "? 10 TooMany\n"),
-        (Command::Continue { turns: 0 }, "? 10 TooMany\n"),
-        (Command::Step { turns: 100_000_001 }, "? 10 TooMany\n"),
-        (
-            Command::Set {
-                register: 0o12,
-                value: 0,
-            },
-            "? 11 BadRegister\n",
-        ),
-        (
-            Command::Examine {
-                address: 0o777_777_776,
-                count: 2,
-            },
-            "? 6 NoAnswer\n",
-        ),
-        (
-            Command::Examine {
-                address: last,
-                count: 512,
-            },
-            "? 6 NoAnswer\n",
-        ),
-        (two_words(alloc, 0o757_774)?, "? 6 NoAnswer\n"),
-        (two_words(alloc, 0o757_776)?, "? 10 TooMany\n"),
-        (two_words(alloc, 0o777_776)?, "? 10 TooMany\n"),
-        (two_words(alloc, 0o777_777)?, "? 10 TooMany\n"),
-        (two_words(alloc, 0o1_000_000)?, "? 6 NoAnswer\n"),
-        (two_words(alloc, 0o1_000_001)?, "? 5 OddAddress\n"),
-        (two_words(alloc, last)?, "? 6 NoAnswer\n"),
-        (Command::Save { drive: 0 }, "? 2 DriveEmpty\n"),
-        (
-            Command::Set {
-                register: 7,
-                value: 0o1000,
-            },
-            "OK\n",
-        ),
-        (
-            Command::Regs,
-            "REGS 000000 000000 000000 000000 000000 000000\nSP 000000 000000 PC 001000 PS 000000\nTURN 0 ready\n",
-        ),
-    ] {
-        asked.push(Asked { command, answer })?;
+/// A deposit of the words 1, 2 and so on.
+fn deposit(alloc: Global, address: u32, count: u16) -> Result<Command, AllocError> {
+    let mut words = Vec::new(alloc);
+    for word in 0..count {
+        words.push(word.saturating_add(1))?;
     }
-    Ok(asked)
+    let words = Words::from_vec(words);
+    Ok(Command::Deposit { address, words })
 }
 
 /// Gives commands with such numbers.
 pub(crate) fn give_commands(alloc: Global) -> Result<(), Wrong> {
-    let Ok(mut panel) = Panel::new(alloc, small(alloc)?) else {
+    let Ok(mut panel) = Panel::new(alloc, sizes(alloc, 4, 0)?) else {
         return Err(Wrong::NoMemory);
     };
-    let commands = odd_commands(alloc)?;
-    for asked in commands.as_slice() {
-        let answer = panel.act(alloc, &asked.command);
-        let found = text(alloc, &answer)?;
-        same(alloc, "a command", asked.answer, found.as_str())?;
+    give_each(alloc, &mut panel)
+}
+
+/// The same, on this machine.
+fn give_each(alloc: Global, panel: &mut Panel) -> Result<(), Wrong> {
+    for (odd, expected) in &ODD {
+        let command = command(alloc, odd)?;
+        let found = text(alloc, &panel.act(alloc, &command))?;
+        same(alloc, "a command", expected, found.as_str())?;
     }
     Ok(())
 }
@@ -156,38 +211,37 @@ fn adding<A: Allocator + Copy>(heap: A) -> Result<Vec<Command<A>, A>, AllocError
 }
 
 /// What they are answered.
-const ADDED: &str = "OK\nOK\nSTOP halt 3 001012\nREGS 000014 000000 000000 000000 000000 000000\n\
-    SP 000000 000000 PC 001012 PS 000000\nTURN 3 halted\n";
+static ADDED: [&str; 4] = [
+    "OK\n",
+    "OK\n",
+    "STOP halt 3 001012\n",
+    "REGS 000014 000000 000000 000000 000000 000000\nSP 000000 000000 PC 001012 PS 000000\nTURN 3 halted\n",
+];
 
-/// Plays a list of commands with ample memory, and on a heap with none.
+/// Plays lists of 0 to 100 commands on the smallest machine and on the usual one.
 pub(crate) fn give_lists(alloc: Global) -> Result<(), Wrong> {
-    let commands = adding(alloc)?;
-    for config in [small(alloc)?, usual(alloc)?] {
-        let Some(answers) = played(alloc, alloc, config, commands.as_slice())? else {
-            return Err(Wrong::NoMemory);
-        };
-        same(alloc, "a list of commands", ADDED, answers.as_str())?;
+    let mut commands = adding(alloc)?;
+    for _ in 0..96 {
+        commands.push(Command::Start { address: 0o1000 })?;
     }
-    let heap = LocalHeap::new(alloc, 65_536)?;
-    refuse_a_list(alloc, Ballast::new(alloc, &heap, 16))
+    give_fronts(alloc, sizes(alloc, 4, 0)?, commands.as_slice())?;
+    give_fronts(alloc, sizes(alloc, 28, 1024)?, commands.as_slice())
 }
 
-/// Plays lists of 0 to 100 commands, each of which is answered.
-pub(crate) fn give_long_lists(alloc: Global) -> Result<(), Wrong> {
-    let mut commands = Vec::new(alloc);
+/// Plays each front of a list on a new machine: each command is answered.
+fn give_fronts(alloc: Global, config: Config, commands: &[Command]) -> Result<(), Wrong> {
     let mut expected = String::new(alloc);
-    for _ in 0..101 {
-        let Some(answers) = played(alloc, alloc, small(alloc)?, commands.as_slice())? else {
+    for count in 0..commands.len() + 1 {
+        let Some(answers) = played(alloc, alloc, config, &commands[..count])? else {
             return Err(Wrong::NoMemory);
         };
         same(
             alloc,
-            "a long list of commands",
+            "a list of commands",
             expected.as_str(),
             answers.as_str(),
         )?;
-        commands.push(Command::Start { address: 0o1000 })?;
-        expected.push_str("OK\n")?;
+        expected.push_str(ADDED.get(count).copied().unwrap_or("OK\n"))?;
     }
     Ok(())
 }
@@ -209,90 +263,38 @@ fn played<A: Allocator + Copy>(
     Ok(Some(texts))
 }
 
+/// Plays a list of commands on a heap that has no memory.
+pub(crate) fn refuse_a_list(alloc: Global) -> Result<(), Wrong> {
+    let commands = adding(alloc)?;
+    let Some(expected) = played(alloc, alloc, sizes(alloc, 4, 0)?, commands.as_slice())? else {
+        return Err(Wrong::NoMemory);
+    };
+    let heap = LocalHeap::new(alloc, 65_536)?;
+    play_on_full_heap(alloc, Ballast::new(alloc, &heap, 16), expected.as_str())
+}
+
 /// The 4,096 words of the machine are 512 pieces of 16 bytes, and then the answers want some.
-fn refuse_a_list<A: Allocator + Copy>(alloc: Global, mut ballast: Ballast<A>) -> Result<(), Wrong> {
+const REFUSED: Places = Places {
+    least: 513,
+    most: u32::MAX,
+};
+
+/// The same, with memory that comes back a piece at a time.
+fn play_on_full_heap<A: Allocator + Copy>(
+    alloc: Global,
+    mut ballast: Ballast<A>,
+    expected: &str,
+) -> Result<(), Wrong> {
     let heap = ballast.heap();
     let commands = adding(heap)?;
+    let config = sizes(alloc, 4, 0)?;
     ballast.fill()?;
     for refused in 0..MOST_TRIES {
-        if let Some(answers) = played(alloc, heap, small(alloc)?, commands.as_slice())? {
-            same(alloc, "a list of commands", ADDED, answers.as_str())?;
-            return Places::at_least(513).judge(alloc, "a list of commands", refused);
+        if let Some(answers) = played(alloc, heap, config, commands.as_slice())? {
+            same(alloc, "a list of commands", expected, answers.as_str())?;
+            return REFUSED.judge(alloc, "a list of commands", refused);
         }
         ballast.give_back(alloc)?;
     }
     Err(bad_line(alloc, "a list of commands"))
-}
-
-/// Shows all that a pack holds, on a heap with no memory.
-pub(crate) fn refuse_a_copy(alloc: Global) -> Result<(), Wrong> {
-    let heap = LocalHeap::new(alloc, 2_600_000)?;
-    let mut ballast = Ballast::new(alloc, &heap, 4096);
-    let Ok(mut panel) = Panel::new(&heap, small(alloc)?) else {
-        return Err(Wrong::NoMemory);
-    };
-    copy_on_full_heap(alloc, &mut ballast, &mut panel)
-}
-
-/// A pack's 2,494,464 bytes are 609 pieces of 4,096.
-fn copy_on_full_heap<A: Allocator + Copy>(
-    alloc: Global,
-    ballast: &mut Ballast<A>,
-    panel: &mut Panel<A>,
-) -> Result<(), Wrong> {
-    let heap = ballast.heap();
-    mount_bytes(alloc, heap, panel)?;
-    ballast.fill()?;
-    for refused in 0..MOST_TRIES {
-        let found = copied(alloc, heap, panel)?;
-        if found.as_str() == WHOLE {
-            return Places::at_least(609).judge(alloc, "a copy of a pack", refused);
-        }
-        same(alloc, "a copy of a pack", "? 12 NoMemory\n", found.as_str())?;
-        ballast.give_back(alloc)?;
-    }
-    Err(bad_line(alloc, "a copy of a pack"))
-}
-
-/// What stands for an answer that is all that the pack holds.
-const WHOLE: &str = "whole";
-
-/// Shows all that the pack holds: the text of a refusal, or `WHOLE`.
-fn copied<A: Allocator + Copy>(
-    alloc: Global,
-    heap: A,
-    panel: &mut Panel<A>,
-) -> Result<String, Wrong> {
-    let answer = panel.act(heap, &Command::Save { drive: 0 });
-    if is_whole(&answer) {
-        return Ok(String::from_str(alloc, WHOLE)?);
-    }
-    text(alloc, &answer)
-}
-
-/// Whether an answer is all that the pack holds.
-fn is_whole<A: Allocator>(answer: &Answer<A>) -> bool {
-    match answer {
-        Answer::Image(image) => {
-            let bytes = image.as_slice();
-            bytes.len() == 2_494_464 && bytes.starts_with(&[1, 2, 3, 0])
-        }
-        _ => false,
-    }
-}
-
-/// Mounts a pack whose first bytes are 1, 2 and 3.
-fn mount_bytes<A: Allocator + Copy>(
-    alloc: Global,
-    heap: A,
-    panel: &mut Panel<A>,
-) -> Result<(), Wrong> {
-    let mount = Command::Mount {
-        drive: 0,
-        image: Bytes::from_vec(Vec::from_slice(heap, &[1, 2, 3])?),
-        protect: false,
-    };
-    let answer = panel.act(heap, &mount);
-    let found = text(alloc, &answer)?;
-    same(alloc, "a pack", "OK\n", found.as_str())
 }

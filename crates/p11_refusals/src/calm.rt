@@ -5,7 +5,7 @@ use crate::bench::Bench;
 use crate::case::Setting;
 use p11_panel::Panel;
 use p11_test_data::{Shelf, Wrong, bad_line, same};
-use std::alloc::Global;
+use std::alloc::{AllocError, Global};
 use std::marker::Brand;
 use std::sync::ledger::{Blank, Ledger};
 
@@ -15,6 +15,13 @@ pub(crate) struct Step {
     pub(crate) line: String,
     pub(crate) answer: String,
     pub(crate) state: String,
+}
+
+impl Step {
+    /// All of it.
+    fn text(&self, alloc: Global) -> Result<String, AllocError> {
+        format!(in alloc; "{}\n{}\n{}", self.line, self.answer, self.state)
+    }
 }
 
 /// A session's lines, the state before the first of them, and the bytes of the files that it leaves.
@@ -133,24 +140,8 @@ pub(crate) fn same_session(
     same(alloc, name, expected.begin.as_str(), found.begin.as_str())?;
     for (expected, found) in expected.steps.iter().zip(found.steps.iter()) {
         let place = format!(in alloc; "{name}: {}", expected.line)?;
-        same(
-            alloc,
-            place.as_str(),
-            expected.line.as_str(),
-            found.line.as_str(),
-        )?;
-        same(
-            alloc,
-            place.as_str(),
-            expected.answer.as_str(),
-            found.answer.as_str(),
-        )?;
-        same(
-            alloc,
-            place.as_str(),
-            expected.state.as_str(),
-            found.state.as_str(),
-        )?;
+        let (expected, found) = (expected.text(alloc)?, found.text(alloc)?);
+        same(alloc, place.as_str(), expected.as_str(), found.as_str())?;
     }
     for (expected, found) in expected.left.iter().zip(found.left.iter()) {
         if expected.as_slice() != found.as_slice() {

@@ -10,6 +10,15 @@ pub(crate) struct Places {
     pub(crate) most: u32,
 }
 
+/// Nothing refuses.
+pub(crate) const NOWHERE: Places = Places { least: 0, most: 0 };
+
+/// How often it is refused isn't compared.
+pub(crate) const ANYWHERE: Places = Places {
+    least: 0,
+    most: u32::MAX,
+};
+
 /// A line of a case's script.
 #[derive(Drop)]
 pub(crate) struct CaseLine {
@@ -50,7 +59,7 @@ impl Case {
         Ok(Case {
             name: String::from_str(alloc, name)?,
             config,
-            machine: Places::any(),
+            machine: ANYWHERE,
             lines: Vec::new(alloc),
             looks: String::new(alloc),
             left: Vec::new(alloc),
@@ -84,12 +93,6 @@ impl Case {
         Ok(())
     }
 
-    /// Adds a line that shows some of the state.
-    pub(crate) fn add_look(&mut self, line: &str) -> Result<(), AllocError> {
-        self.looks.push_str(line)?;
-        self.looks.push_str("\n")
-    }
-
     /// The texts of its lines.
     pub(crate) fn texts(&self, alloc: Global) -> Result<Vec<String>, AllocError> {
         let mut texts = Vec::new(alloc);
@@ -101,24 +104,6 @@ impl Case {
 }
 
 impl Places {
-    pub(crate) fn none() -> Places {
-        Places { least: 0, most: 0 }
-    }
-
-    pub(crate) fn any() -> Places {
-        Places {
-            least: 0,
-            most: u32::MAX,
-        }
-    }
-
-    pub(crate) fn at_least(least: u32) -> Places {
-        Places {
-            least,
-            most: u32::MAX,
-        }
-    }
-
     /// Compares a number of places with what it is to be.
     pub(crate) fn judge(self, alloc: Global, name: &str, count: u32) -> Result<(), Wrong> {
         if self.least <= count && count <= self.most {
@@ -129,6 +114,14 @@ impl Places {
             self.least, self.most
         )?;
         Err(Wrong::Line(text))
+    }
+}
+
+/// The sizes of a machine, in thousands of words and decoded words.
+pub(crate) fn sizes(alloc: Global, kwords: u32, kept: u32) -> Result<Config, Wrong> {
+    match Config::new(kwords, kept) {
+        Ok(config) => Ok(config),
+        Err(_) => Err(bad_line(alloc, "sizes that no machine has")),
     }
 }
 

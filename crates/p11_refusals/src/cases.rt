@@ -1,6 +1,6 @@
 //! Reads a file of cases line by line, tries each, and keeps what they showed.
 use crate::calm::play_calmly;
-use crate::case::{Case, Places, Setting, Trial};
+use crate::case::{Case, NOWHERE, Places, Setting, Trial, sizes};
 use crate::full_heap::play_on_full_heap;
 use crate::store_calls::refuse_calls;
 use crate::streams::break_streams;
@@ -32,9 +32,9 @@ pub(crate) struct Cases {
     files: Vec<StoredFile>,
     case: Option<Case>,
     /// What the cases that were tried showed, a line for each.
-    shown: String,
+    pub(crate) shown: String,
     /// Whether all showed what they are to show.
-    is_right: bool,
+    pub(crate) is_right: bool,
 }
 
 impl Cases {
@@ -49,16 +49,6 @@ impl Cases {
         }
     }
 
-    /// What the cases showed.
-    pub(crate) fn shown(&self) -> &str {
-        self.shown.as_str()
-    }
-
-    /// Whether all were as they are to be.
-    pub(crate) fn is_right(&self) -> bool {
-        self.is_right
-    }
-
     /// Reads the next line.
     pub(crate) fn take(&mut self, alloc: Global, line: &str) -> Result<(), Wrong> {
         if line.is_empty() || line.starts_with("#") {
@@ -66,35 +56,18 @@ impl Cases {
         }
         let (sign, rest) = line.split_once(" ").unwrap_or((line, ""));
         match sign {
-            "=" => self.begin(alloc, rest),
-            "@" => self.add_file(alloc, rest),
-            "!" => self.set_sizes(alloc, rest),
-            "%" => self.set_trial(alloc, rest),
-            _ => self.add_part(alloc, sign, rest),
+            "=" => {
+                self.finish(alloc)?;
+                self.case = Some(Case::new(alloc, rest, self.config)?);
+            }
+            "@" => self.files.push(StoredFile::read(alloc, rest)?)?,
+            "!" => self.config = machine(alloc, rest)?,
+            "%" => {
+                self.finish(alloc)?;
+                self.trial = trial(alloc, rest)?;
+            }
+            _ => return self.add_part(alloc, sign, rest),
         }
-    }
-
-    /// Begins a case, and tries the one above it.
-    fn begin(&mut self, alloc: Global, name: &str) -> Result<(), Wrong> {
-        self.finish(alloc)?;
-        self.case = Some(Case::new(alloc, name, self.config)?);
-        Ok(())
-    }
-
-    fn add_file(&mut self, alloc: Global, text: &str) -> Result<(), Wrong> {
-        self.files.push(StoredFile::read(alloc, text)?)?;
-        Ok(())
-    }
-
-    fn set_sizes(&mut self, alloc: Global, text: &str) -> Result<(), Wrong> {
-        self.config = sizes(alloc, text)?;
-        Ok(())
-    }
-
-    /// Takes what is tried from here on.
-    fn set_trial(&mut self, alloc: Global, text: &str) -> Result<(), Wrong> {
-        self.finish(alloc)?;
-        self.trial = trial(alloc, text)?;
         Ok(())
     }
 
@@ -130,14 +103,14 @@ impl Cases {
 /// Takes a line that belongs to a case.
 fn take_part(alloc: Global, case: &mut Case, sign: &str, rest: &str) -> Result<(), Wrong> {
     match sign {
-        ">" => case.add_lines(alloc, rest, Places::none())?,
+        ">" => case.add_lines(alloc, rest, NOWHERE)?,
         "+" => {
             let (places, lines) = places(alloc, rest)?;
             case.add_lines(alloc, lines, places)?;
         }
         "*" => case.set_stop(alloc, rest)?,
         "^" => case.machine = places(alloc, rest)?.0,
-        "?" => case.add_look(rest)?,
+        "?" => writeln!(case.looks, "{rest}")?,
         "&" => case.left.push(String::from_str(alloc, rest)?)?,
         _ => return Err(bad_line(alloc, rest)),
     }
@@ -159,14 +132,9 @@ fn try_case(alloc: Global, trial: Trial, setting: &Setting<'_>) -> Result<String
 }
 
 /// The sizes of machines.
-fn sizes(alloc: Global, text: &str) -> Result<Config, Wrong> {
-    let mut words = text.split_whitespace();
-    let kwords = number(alloc, words.next().unwrap_or(""))?;
-    let kept = number(alloc, words.next().unwrap_or(""))?;
-    match Config::new(kwords, kept) {
-        Ok(config) => Ok(config),
-        Err(_) => Err(bad_line(alloc, text)),
-    }
+fn machine(alloc: Global, text: &str) -> Result<Config, Wrong> {
+    let (kwords, kept) = text.split_once(" ").unwrap_or((text, ""));
+    sizes(alloc, number(alloc, kwords)?, number(alloc, kept)?)
 }
 
 /// What is tried.

@@ -76,26 +76,43 @@ impl<L: Ledger, A: Allocator + Copy> Disturbed<L, A> {
             wants: false,
         };
         for _ in 0..MOST_TRIES {
-            let asked = way.asked(alloc)?;
-            let answer = self.bench.ask(alloc, asked.as_str())?;
-            let state = self.shown(alloc, setting)?;
-            if answer.as_str() == NO_MEMORY {
-                way.places = way.places.saturating_add(1);
-                self.refused(alloc, asked.as_str(), state.as_str())?;
+            if self.goes_on(alloc, setting, &mut way, step)? {
                 continue;
             }
-            match way.part(asked.as_str(), answer.as_str()) {
-                Some(stop) => self.part(alloc, &mut way, &stop, state)?,
-                None => {
-                    self.done(alloc, &way, step, (asked, answer, state))?;
-                    return Ok(Tried {
-                        places: way.places,
-                        stop: way.stop,
-                    });
-                }
-            }
+            return Ok(Tried {
+                places: way.places,
+                stop: way.stop,
+            });
         }
         Err(bad_line(alloc, step.line.as_str()))
+    }
+
+    /// Asks what is left of a line once: whether it isn't done.
+    fn goes_on(
+        &mut self,
+        alloc: Global,
+        setting: &Setting<'_>,
+        way: &mut Way,
+        step: &Step,
+    ) -> Result<bool, Wrong> {
+        let asked = way.asked(alloc)?;
+        let answer = self.bench.ask(alloc, asked.as_str())?;
+        let state = self.shown(alloc, setting)?;
+        if answer.as_str() == NO_MEMORY {
+            way.places = way.places.saturating_add(1);
+            self.refused(alloc, asked.as_str(), state.as_str())?;
+            return Ok(true);
+        }
+        match way.part(asked.as_str(), answer.as_str()) {
+            Some(stop) => {
+                self.part(alloc, way, &stop, state)?;
+                Ok(true)
+            }
+            None => {
+                self.done(alloc, way, step, (asked, answer, state))?;
+                Ok(false)
+            }
+        }
     }
 
     /// The lines that were done, and the files that are left.

@@ -38,12 +38,12 @@ mod stop;
 mod store_calls;
 mod streams;
 
-use crate::by_hand::{give_commands, give_lists, give_long_lists, judge_sizes, refuse_a_copy};
+use crate::by_hand::{give_commands, give_lists, judge_sizes, refuse_a_list};
+use crate::case::sizes;
 use crate::cases::Cases;
 use crate::given::stop_runs;
 use crate::scripts::play_scripts;
-use p11_panel::Config;
-use p11_test_data::{Wrong, bad_line};
+use p11_test_data::Wrong;
 use std::alloc::Global;
 use std::process::ExitCode;
 use std::{env, fs, io};
@@ -66,8 +66,8 @@ fn try_files(rt: &HostRuntime) -> io::Result<bool> {
         let text = fs::read_to_string(rt, path.as_str())?;
         match try_text(rt.alloc(), text.as_str()) {
             Ok(cases) => {
-                rt.print(cases.shown())?;
-                is_right &= cases.is_right();
+                rt.print(cases.shown.as_str())?;
+                is_right &= cases.is_right;
             }
             Err(wrong) => {
                 println!(rt; "{path}: {wrong}")?;
@@ -92,18 +92,14 @@ fn try_by_hand(alloc: Global) -> Result<(), Wrong> {
     judge_sizes(alloc)?;
     give_commands(alloc)?;
     give_lists(alloc)?;
-    give_long_lists(alloc)?;
-    refuse_a_copy(alloc)?;
+    refuse_a_list(alloc)?;
     play_scripts(alloc)?;
     stop_runs(alloc)
 }
 
 /// Tries the cases of a file's text.
 fn try_text(alloc: Global, text: &str) -> Result<Cases, Wrong> {
-    let Ok(config) = Config::new(4, 16) else {
-        return Err(bad_line(alloc, "sizes"));
-    };
-    let mut cases = Cases::new(alloc, config);
+    let mut cases = Cases::new(alloc, sizes(alloc, 4, 16)?);
     for line in text.lines() {
         cases.take(alloc, line)?;
     }

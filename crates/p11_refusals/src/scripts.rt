@@ -1,10 +1,9 @@
 // How a script is cut into lines, and how it ends.
-use crate::by_hand::{small, usual};
-use crate::case::{Case, Setting};
+use crate::case::{Case, Setting, sizes};
 use crate::streams::play;
 use p11_panel::Config;
-use p11_test_data::{EndlessReader, PieceReader, PieceWriter, Wrong, bad_line, same};
-use std::alloc::{AllocError, Global};
+use p11_test_data::{EndlessReader, PieceReader, PieceWriter, Wrong, same};
+use std::alloc::Global;
 
 /// A front, how many spaces stand behind it, an end, and what the script comes to.
 type Script = (&'static str, u32, &'static str, &'static str);
@@ -49,9 +48,9 @@ static SCRIPTS: [Script; 8] = [
 
 /// Plays scripts that no case can write down.
 pub(crate) fn play_scripts(alloc: Global) -> Result<(), Wrong> {
-    play_each(alloc, usual(alloc)?)?;
-    play_each(alloc, small(alloc)?)?;
-    let case = Case::new(alloc, "", small(alloc)?)?;
+    play_each(alloc, sizes(alloc, 28, 1024)?)?;
+    play_each(alloc, sizes(alloc, 4, 0)?)?;
+    let case = Case::new(alloc, "", sizes(alloc, 4, 0)?)?;
     let setting = Setting {
         case: &case,
         files: &[],
@@ -68,7 +67,11 @@ fn play_each(alloc: Global, config: Config) -> Result<(), Wrong> {
         files: &[],
     };
     for &(front, spaces, end, expected) in &SCRIPTS {
-        let script = padded(alloc, front, spaces, end)?;
+        let mut script = String::from_str(alloc, front)?;
+        for _ in 0..spaces {
+            script.push_str(" ")?;
+        }
+        script.push_str(end)?;
         let mut reader = PieceReader::new(script.as_bytes(), 4096, false);
         let mut writer = PieceWriter::new(alloc, usize::MAX, usize::MAX, true);
         let came = play(alloc, &setting, &mut reader, &mut writer)?;
@@ -76,16 +79,6 @@ fn play_each(alloc: Global, config: Config) -> Result<(), Wrong> {
         same(alloc, front, expected, found.as_str())?;
     }
     Ok(())
-}
-
-/// A front, spaces and an end.
-fn padded(alloc: Global, front: &str, spaces: u32, end: &str) -> Result<String, AllocError> {
-    let mut script = String::from_str(alloc, front)?;
-    for _ in 0..spaces {
-        script.push_str(" ")?;
-    }
-    script.push_str(end)?;
-    Ok(script)
 }
 
 /// Each line's answer is one write, over several reads.

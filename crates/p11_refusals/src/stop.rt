@@ -53,10 +53,6 @@ impl Parts {
         }
     }
 
-    pub(crate) fn turns(&self) -> u32 {
-        self.turns
-    }
-
     pub(crate) fn add(&mut self, stop: &Stop<'_>) -> Result<(), AllocError> {
         self.turns = self.turns.saturating_add(stop.turns);
         self.typed.push_str(stop.typed)

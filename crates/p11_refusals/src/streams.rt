@@ -14,7 +14,19 @@ use std::sync::ledger::{Blank, Ledger};
 /// How many bytes are read or written at once at most.
 const MOST: [usize; 3] = [4096, 5, 1];
 
-/// Breaks the reader behind each byte and the writer before each byte: what that shows.
+/// Where the streams of a session break: the reader gives so many bytes, and then ends or fails; the writer takes so many,
+/// and then fails or takes none; each takes at most so many at once.
+#[derive(Clone, Copy, Drop)]
+struct Break {
+    given: usize,
+    reader_fails: bool,
+    room: usize,
+    writer_fails: bool,
+    most: usize,
+}
+
+/// Breaks the reader behind each byte and the writer before each byte, and gives a script whose last line has no LF: what
+/// that shows.
 pub(crate) fn break_streams(
     alloc: Global,
     setting: &Setting<'_>,
@@ -23,13 +35,36 @@ pub(crate) fn break_streams(
     let script = script_of(alloc, calm)?;
     let answers = answers_of(alloc, calm, calm.steps.len())?;
     for most in MOST {
+        let whole = Break {
+            given: script.len(),
+            reader_fails: false,
+            room: usize::MAX,
+            writer_fails: false,
+            most,
+        };
+        let unended = Break {
+            given: script.len().saturating_sub(1),
+            ..whole
+        };
+        break_at(alloc, setting, calm, (script.as_bytes(), unended))?;
         for given in 0..script.len() + 1 {
-            break_reader(alloc, setting, calm, (script.as_bytes(), given, most))?;
+            let at = Break {
+                given,
+                reader_fails: true,
+                ..whole
+            };
+            break_at(alloc, setting, calm, (script.as_bytes(), at))?;
         }
         for room in 0..answers.len() {
-            break_writer(alloc, setting, calm, (script.as_bytes(), room, most))?;
+            for writer_fails in [false, true] {
+                let at = Break {
+                    room,
+                    writer_fails,
+                    ..whole
+                };
+                break_at(alloc, setting, calm, (script.as_bytes(), at))?;
+            }
         }
-        play_whole(alloc, setting, calm, (script.as_bytes(), most))?;
     }
     Ok(format!(in alloc;
         "the reader fails behind 0 to {} bytes, and the writer behind 0 to {}",
@@ -65,93 +100,53 @@ pub(crate) struct Came {
     pub(crate) state: String,
 }
 
-/// The text of what a session came to.
-fn outcome(alloc: Global, end: &str, written: &str, state: &str) -> Result<String, AllocError> {
-    format!(in alloc; "{end}\n{written}\n{state}")
-}
-
-/// Compares what a session came to.
-fn same_outcome(alloc: Global, place: &str, expected: &str, came: &Came) -> Result<(), Wrong> {
-    let found = outcome(
-        alloc,
-        came.end.as_str(),
-        came.written.as_str(),
-        came.state.as_str(),
-    )?;
-    same(alloc, place, expected, found.as_str())
-}
-
-/// What a session comes to that does so many lines, of whose answers so many bytes are written.
-fn expected_outcome(
+/// Plays a script whose streams break, and compares what it comes to.
+fn break_at(
     alloc: Global,
+    setting: &Setting<'_>,
     calm: &Played,
-    end: &str,
-    (lines, bytes): (usize, usize),
-) -> Result<String, Wrong> {
+    (script, at): (&[u8], Break),
+) -> Result<(), Wrong> {
+    let (front, _) = script.split_at(at.given.min(script.len()));
+    let mut reader = PieceReader::new(front, at.most, at.reader_fails);
+    let mut writer = PieceWriter::new(alloc, at.room, at.most, at.writer_fails);
+    let came = play(alloc, setting, &mut reader, &mut writer)?;
+    let found = format!(in alloc; "{}\n{}\n{}", came.end, came.written, came.state)?;
+    let expected = expected(alloc, calm, front, at)?;
+    let place = format!(in alloc;
+        "a reader of {} bytes and a writer of {}, {} at once",
+        at.given, at.room, at.most
+    )?;
+    same(alloc, place.as_str(), expected.as_str(), found.as_str())
+}
+
+/// What a session comes to whose reader gives this front of the script. Where the writer breaks, the line is done whose
+/// answer has the next byte, and no other behind it. Where the reader fails, just the lines that LF ended are done.
+fn expected(alloc: Global, calm: &Played, front: &[u8], at: Break) -> Result<String, Wrong> {
+    let (end, lines) = if at.room < usize::MAX {
+        (
+            String::from_str(alloc, "Writing")?,
+            calm.line_of_byte(at.room),
+        )
+    } else if at.reader_fails {
+        let lines = front.iter().filter(|byte| **byte == b'\n').count();
+        (String::from_str(alloc, "Reading")?, lines)
+    } else {
+        let answered = calm
+            .steps
+            .iter()
+            .filter(|step| !step.answer.is_empty())
+            .count();
+        (
+            format!(in alloc; "{answered} lines answered")?,
+            calm.steps.len(),
+        )
+    };
     let answers = answers_of(alloc, calm, lines)?;
-    let Some(written) = answers.as_str().get(..bytes.min(answers.len())) else {
+    let Some(written) = answers.as_str().get(..at.room.min(answers.len())) else {
         return Err(bad_line(alloc, "an answer that is no ASCII"));
     };
-    Ok(outcome(alloc, end, written, calm.state_behind(lines))?)
-}
-
-/// The reader fails behind so many bytes, of which it gives at most so many at once: just the lines that LF ended are
-/// done.
-fn break_reader(
-    alloc: Global,
-    setting: &Setting<'_>,
-    calm: &Played,
-    (script, given, most): (&[u8], usize, usize),
-) -> Result<(), Wrong> {
-    let (front, _) = script.split_at(given.min(script.len()));
-    let lines = front.iter().filter(|byte| **byte == b'\n').count();
-    let mut reader = PieceReader::new(front, most, true);
-    let mut writer = PieceWriter::new(alloc, usize::MAX, most, true);
-    let came = play(alloc, setting, &mut reader, &mut writer)?;
-    let expected = expected_outcome(alloc, calm, "Reading", (lines, usize::MAX))?;
-    let place = format!(in alloc; "a reader that fails behind {given} bytes, {most} at once")?;
-    same_outcome(alloc, place.as_str(), expected.as_str(), &came)
-}
-
-/// The writer fails, or takes nothing, behind so many bytes: the line is done whose answer has the next byte, and no
-/// other behind it.
-fn break_writer(
-    alloc: Global,
-    setting: &Setting<'_>,
-    calm: &Played,
-    (script, room, most): (&[u8], usize, usize),
-) -> Result<(), Wrong> {
-    let expected = expected_outcome(alloc, calm, "Writing", (calm.line_of_byte(room), room))?;
-    for fails in [false, true] {
-        let mut reader = PieceReader::new(script, most, false);
-        let mut writer = PieceWriter::new(alloc, room, most, fails);
-        let came = play(alloc, setting, &mut reader, &mut writer)?;
-        let place = format!(in alloc; "a writer that breaks behind {room} bytes, {most} at once")?;
-        same_outcome(alloc, place.as_str(), expected.as_str(), &came)?;
-    }
-    Ok(())
-}
-
-/// Neither fails, and the last line has no LF.
-fn play_whole(
-    alloc: Global,
-    setting: &Setting<'_>,
-    calm: &Played,
-    (script, most): (&[u8], usize),
-) -> Result<(), Wrong> {
-    let (front, _) = script.split_at(script.len().saturating_sub(1));
-    let mut reader = PieceReader::new(front, most, false);
-    let mut writer = PieceWriter::new(alloc, usize::MAX, most, true);
-    let came = play(alloc, setting, &mut reader, &mut writer)?;
-    let answered = calm
-        .steps
-        .iter()
-        .filter(|step| !step.answer.is_empty())
-        .count();
-    let end = format!(in alloc; "{answered} lines answered")?;
-    let expected = expected_outcome(alloc, calm, end.as_str(), (calm.steps.len(), usize::MAX))?;
-    let place = format!(in alloc; "{most} bytes at once")?;
-    same_outcome(alloc, place.as_str(), expected.as_str(), &came)
+    Ok(format!(in alloc; "{end}\n{written}\n{}", calm.state_behind(lines))?)
 }
 
 /// Plays a session on a new machine: what it came to.

@@ -5,6 +5,7 @@ use crate::run_script;
 use crate::settings::settings;
 use p11_panel::SessionFault;
 use std::alloc::{AllocError, Global};
+use std::process::Abort;
 use std::test::Fail;
 use std::{fs, io};
 
@@ -80,13 +81,13 @@ fn a_command_line_gives_sizes_and_a_script(rt: HostRuntime) -> Result<(), Fail> 
         let Ok(launch) = settings(rt.alloc(), words.as_slice()) else {
             return Err(Fail::from("a command line is refused"));
         };
-        assert_eq!(rt;
-            (launch.config.kwords(), launch.config.lines()),
-            (kwords, lines),
-            "{line}"
+        let found = (
+            launch.config.kwords(),
+            launch.config.lines(),
+            launch.script,
+            launch.is_from_standard_input(),
         );
-        assert_eq!(rt; launch.script, script);
-        assert_eq!(rt; launch.is_from_standard_input(), script == "-");
+        assert_eq!(rt; found, (kwords, lines, script, script == "-"), "{line}");
     }
     Ok(())
 }
@@ -105,22 +106,26 @@ fn a_command_line_ends_the_program(rt: HostRuntime) -> Result<(), Fail> {
     Ok(())
 }
 
+/// Compares how the program ends.
+fn judge(abort: &impl Abort, cause: &Cause, status: u8, text: &str) {
+    let (ended, said) = ending(cause);
+    assert_eq!(abort; ended, status, "{said}");
+    assert_eq!(abort; said, text);
+}
+
 #[test]
 fn each_ending_has_its_status_and_text(rt: HostRuntime) {
-    assert_eq!(rt; ending(&Cause::Done), (0, ""));
-    assert_eq!(rt;
-        ending(&Cause::NotUtf8),
-        (2, "p11: arguments are not UTF-8\n")
-    );
-    assert_eq!(rt; ending(&Cause::BadSize), (2, "? 15 BadSize\n"));
-    assert_eq!(rt; ending(&Cause::NoMemory), (3, "p11: no memory\n"));
+    judge(&rt, &Cause::Done, 0, "");
+    judge(&rt, &Cause::NotUtf8, 2, "p11: arguments are not UTF-8\n");
+    judge(&rt, &Cause::BadSize, 2, "? 15 BadSize\n");
+    judge(&rt, &Cause::NoMemory, 3, "p11: no memory\n");
     let reading = Cause::Session(SessionFault::Reading);
-    assert_eq!(rt; ending(&reading), (1, "p11: read fault\n"));
+    judge(&rt, &reading, 1, "p11: read fault\n");
     let writing = Cause::Session(SessionFault::Writing);
-    assert_eq!(rt; ending(&writing), (1, "p11: write fault\n"));
+    judge(&rt, &writing, 1, "p11: write fault\n");
     assert_eq!(rt; ending_after(&writing, false), (1, ""));
     let long = Cause::Session(SessionFault::TooLong);
-    assert_eq!(rt; ending(&long), (1, "p11: script too long\n"));
+    judge(&rt, &long, 1, "p11: script too long\n");
 }
 
 #[test]
@@ -178,16 +183,11 @@ fn ended(rt: &HostRuntime, script: &str) -> Result<Cause, Fail> {
 #[test]
 fn a_script_that_cannot_be_read_ends_the_program(rt: HostRuntime) -> Result<(), Fail> {
     fs::write(&rt, "p11_script", b"# nothing\n".as_slice())?;
-    let cause = ended(&rt, "p11_script")?;
-    assert_eq!(rt; ending(&cause), (0, ""));
+    judge(&rt, &ended(&rt, "p11_script")?, 0, "");
     fs::remove_file(&rt, "p11_script")?;
-    let cause = ended(&rt, "p11_script")?;
-    assert_eq!(rt; ending(&cause), (1, "p11: read fault\n"), "it is missing");
-    let cause = ended(&rt, ".")?;
-    assert_eq!(rt;
-        ending(&cause),
-        (1, "p11: read fault\n"),
-        "a folder is opened, and no read of it goes well"
-    );
+    // it is missing; a folder is opened, and no read of it goes well
+    for script in ["p11_script", "."] {
+        judge(&rt, &ended(&rt, script)?, 1, "p11: read fault\n");
+    }
     Ok(())
 }
