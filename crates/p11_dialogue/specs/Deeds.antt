@@ -1,5 +1,5 @@
 -- What is done at a console, and what it leaves on the screen and in the record.
-use Rattle.std.specs.Prelude.{◌≡◌, ◌≢◌, ◌⊎◌, ℕ, Bool, true, false, List, [], ◌∷◌, ◌++◌, All, ⊤, Option, Some, None, IfSome, IsSomeAnd, ◌==◌, if◌then◌else◌}
+use Rattle.std.specs.Prelude.{◌≡◌, ◌≢◌, ℕ, Bool, true, false, List, [], ◌∷◌, ◌++◌, All, ⊤, Option, Some, None, IsSomeAnd, ◌==◌, if◌then◌else◌}
 use Rattle.std.specs.Bool.{MatchBool}
 use Rattle.std.specs.List.{flat_map}
 use Rattle.std.specs.Io.KnownBytes.{Appends, Consumes}
@@ -9,10 +9,11 @@ use Rattle.p11_lines.specs.declared.line.Line.{Line}
 use Rattle.p11_lines.specs.declared.line.Line.TheVariants as lines
 use Rattle.p11_lines.specs.AnswerText.{text_of}
 use Rattle.p11_lines.specs.Grammar.{line_from}
+use Rattle.p11_lines.specs.Reading.{holds_list}
 use Rattle.p11_lines.specs.Calls.LineText.{line_text}
 use Rattle.p11_store.specs.declared.store.StoreError.{StoreError}
 use Rattle.p11_cpu.specs.State.{State}
-use Rattle.p11_panel.specs.Script.{without_cr}
+use Rattle.p11_panel.specs.Script.{without_cr, script_lines}
 use Rattle.p11_panel.specs.Session.{SessionState, with_store, Obeys}
 use Rattle.p11_store.specs.Store.{StoreState, Fetches, FailsToFetch}
 
@@ -35,12 +36,22 @@ unfoldable pub typed_in : {A : Type 0} → Answer A → List ℕ
 typed_in (answers.Stop typed reason turns pc) = typed
 typed_in _ = []
 
+-- a line that makes turns
+abbrev pub takes_turns : {A : Type 0} → Line A → Bool
+takes_turns (lines.Step turns) = true
+takes_turns (lines.Continue turns) = true
+takes_turns _ = false
+
 -- keys and turns, of which a run is made
 abbrev pub is_of_run : {A : Type 0} → Line A → Bool
 is_of_run (lines.Key text) = true
 is_of_run (lines.Step turns) = true
 is_of_run (lines.Continue turns) = true
 is_of_run _ = false
+
+abbrev pub is_save : {A : Type 0} → Line A → Bool
+is_save (lines.Save drive name) = true
+is_save _ = false
 
 -- what the console tells of an answer by itself: a refusal is told otherwise, with its reason or its line's place
 unfoldable pub told_text : {A : Type 0} → Answer A → List ℕ
@@ -65,28 +76,41 @@ pub data Use : Type 0 where
   ForProgram : Use
   ForNothing : Use
 
+-- Why a text is let go, and no line of it tried: it is no line of the console's language, but blank, a remark, a word of the
+-- program's own, or a mistake; it is a run, which is made in slices; it is a SAVE that a person called off, or that is to
+-- write nothing; or there was no memory to read it.
+pub data Reason : Type 0 where
+  NoLine : Reason
+  InSlices : Reason
+  CalledOff : Reason
+  Unread : Reason
+
 -- A deed: a line was tried, had this answer, and the console told it; keys were pressed or turns made for a run, which
--- is told as a whole; the store was asked for the file of a script; something else was said; a text was taken from the
--- keyboard; Ctrl-E was; or a line was begun that a script has, or a person has typed.
+-- is told as a whole; the store was asked for the file of a script, and gave these bytes or none; something else was said; a
+-- text was taken from the keyboard; Ctrl-E was; the next line of a script was begun; a line was begun that a person has
+-- typed; the text under way was let go; or its line was refused, since there was no memory for its text in the record.
 pub data Deed (A : Type 0) : Type 0 where
   Tried : Line A → Answer A → Deed A
   Ran : Line A → Answer A → Deed A
-  Asked : List ℕ → Deed A
+  Asked : List ℕ → Option (List ℕ) → Deed A
   Said : List ℕ → Deed A
   Took : Use → List ℕ → Deed A
   Escaped : Deed A
   Began : List ℕ → Deed A
+  Typed : List ℕ → Deed A
+  LetGo : Reason → Deed A
+  Unrecorded : Deed A
 
--- the store gives the bytes under a name, or none
-abbrev pub AsksFor : List ℕ → StoreState → StoreState → Type 0
-AsksFor name s s' =
-    ((bytes : List ℕ) × Fetches s name bytes s') ⊎ ((error : StoreError) × FailsToFetch s name error s')
+-- the store gives these bytes under a name, or none
+abbrev pub AsksFor : List ℕ → Option (List ℕ) → StoreState → StoreState → Type 0
+AsksFor name (Some bytes) s s' = Fetches s name bytes s'
+AsksFor name None s s' = (error : StoreError) × FailsToFetch s name error s'
 
 -- what a deed does to the machine and the store
 unfoldable pub Happens : {A : Type 0} → Deed A → SessionState → SessionState → Type 0
 Happens (Tried line answer) s s' = Obeys line s answer s'
 Happens (Ran line answer) s s' = Obeys line s answer s' × (is_of_run line ≡ true)
-Happens (Asked name) s s' = (s'.machine ≡ s.machine) × AsksFor name s.store s'.store
+Happens (Asked name bytes) s s' = (s'.machine ≡ s.machine) × AsksFor name bytes s.store s'.store
 Happens _ s s' = s' ≡ s
 
 -- deeds, one after another
@@ -179,30 +203,60 @@ Suits is_terminal kind text = (is_terminal ≡ false) × HasNoLf text
 
 unfoldable pub Fits : {A : Type 0} → Bool → Deed A → Type 0
 Fits is_terminal (Took kind text) = Suits is_terminal kind text
+Fits is_terminal (Typed text) = is_terminal ≡ true
 Fits is_terminal _ = ⊤
 
--- A text may be under way from when it is taken or begun until it is tried. A line that is tried is what the text under
--- way is by the console's grammar.
-unfoldable pub Leaves : {A : Type 0} → Deed A → Option (List ℕ) → Option (List ℕ) → Type 0
-Leaves (Took ForLine text) was is = IfSome is (λ line. line ≡ without_cr text)
-Leaves (Took ForLastLine text) was is = IfSome is (λ line. line ≡ text)
-Leaves (Began text) was is = IfSome is (λ line. line ≡ text)
-Leaves (Tried line answer) was is = IsSomeAnd was (λ text. line_from text ≡ Some line) × (is ≡ None)
+-- What is still to be done: the text under way, and the lines of a script that aren't begun.
+pub record Pending : Type 0 where
+  pub text : Option (List ℕ)
+  pub lines : List (List ℕ)
+
+abbrev pub none_pending : Pending
+none_pending = record { text = None; lines = [] }
+
+-- a text comes under way where there was none
+abbrev pub Begins : List ℕ → Pending → Pending → Type 0
+Begins text was is = (was.text ≡ None) × (is ≡ record { text = Some text; lines = was.lines })
+
+-- the text under way is so, and isn't under way any more
+abbrev pub Ends : (List ℕ → Type 0) → Pending → Pending → Type 0
+Ends IsSo was is = IsSomeAnd was.text IsSo × (is ≡ record { text = None; lines = was.lines })
+
+-- whether a text may be let go for a reason, by the grammar of the console
+unfoldable pub MayGo : Type 0 → Reason → List ℕ → Type 0
+MayGo A NoLine text = line_from {A = A} text ≡ None
+MayGo A InSlices text = IsSomeAnd (line_from {A = A} text) (λ line. takes_turns line ≡ true)
+MayGo A CalledOff text = IsSomeAnd (line_from {A = A} text) (λ line. is_save line ≡ true)
+MayGo A Unread text = IsSomeAnd (line_from {A = A} text) (λ line. holds_list line ≡ true)
+
+-- A text is under way from when it is taken or begun until a line is tried, which is what the text is by the console's
+-- grammar, or until it is let go. A script's lines are those of the bytes that the store gave, and are begun in order.
+unfoldable pub Leaves : {A : Type 0} → Deed A → Pending → Pending → Type 0
+Leaves (Took ForLine text) was is = Begins (without_cr text) was is
+Leaves (Took ForLastLine text) was is = Begins text was is
+Leaves (Typed text) was is = Begins text was is
+Leaves (Began text) was is =
+    (was.text ≡ None) × (was.lines ≡ text ∷ is.lines) × (is.text ≡ Some text)
+Leaves {A} (Tried line answer) was is = Ends (λ text. line_from {A = A} text ≡ Some line) was is
+Leaves {A} (LetGo reason) was is = Ends (MayGo A reason) was is
+Leaves Unrecorded was is = Ends (λ text. ⊤) was is
+Leaves (Asked name (Some bytes)) was is = is ≡ record { text = was.text; lines = script_lines bytes }
 Leaves _ was is = is ≡ was
 
--- deeds, one after another; no text is under way before them
-unfoldable pub Leave : {A : Type 0} → List (Deed A) → Option (List ℕ) → Option (List ℕ) → Type 0
+-- deeds, one after another
+unfoldable pub Leave : {A : Type 0} → List (Deed A) → Pending → Pending → Type 0
 Leave [] was is = is ≡ was
-Leave (deed ∷ deeds) was is = (next : Option (List ℕ)) × Leaves deed was next × Leave deeds next is
+Leave (deed ∷ deeds) was is = (next : Pending) × Leaves deed was next × Leave deeds next is
 
 -- What deeds take from a keyboard are its bytes in order, none left out and none twice. The machine is given the keys
--- among them in order, but for the last, which wait. Of a text that is taken or begun a line is tried once at most.
-pub record Given {A : Type 0} (deeds : List (Deed A)) (waiting : List ℕ) (text : Option (List ℕ)) (old new : KeyboardState)
+-- among them in order, but for the last, which wait. Each text that is taken for a line, or begun, is tried or let go
+-- before the next.
+pub record Given {A : Type 0} (deeds : List (Deed A)) (waiting : List ℕ) (pending : Pending) (old new : KeyboardState)
     : Type 0 where
   pub taken : Takes old new (flat_map taken_by deeds)
   pub suited : All (Fits old.is_terminal) deeds
   pub pressed : flat_map keys_by deeds ≡ flat_map pressed_by deeds ++ waiting
-  pub tried : Leave deeds None text
+  pub ended : Leave deeds none_pending pending
 
 -- a scene, by its parts
 abbrev pub scene : State → StoreState → Option (List ℕ) → Option (List ℕ) → Option (List ℕ) → Scene

@@ -4,7 +4,7 @@ ghost use Rattle.std.specs.Prelude.{◌≡◌};
 use crate::whole::write_whole;
 use itoa::Buffer;
 use p11_lines::{StdWriter, put_answer};
-use p11_panel::Answer;
+use p11_panel::{Answer, Fault};
 use std::alloc::Allocator;
 use std::io::Write;
 
@@ -69,10 +69,20 @@ impl<W: Write> Console<W> {
     }
 
     /// Says an answer.
-    pub(crate) fn answer<A: Allocator>(&mut self, answer: &Answer<A>) {
+    fn answer<A: Allocator>(&mut self, answer: &Answer<A>) {
         if !self.is_torn && put_answer(&mut self.writer, answer).is_err() {
             self.is_torn = true;
         }
+    }
+
+    /// Answers that a line is refused.
+    pub(crate) fn refuse<A: Allocator>(&mut self, fault: Fault) {
+        self.answer(&Answer::<A>::Refused(fault));
+    }
+
+    /// Answers that a line is done.
+    pub(crate) fn accept<A: Allocator>(&mut self) {
+        self.answer(&Answer::<A>::Done);
     }
 }
 

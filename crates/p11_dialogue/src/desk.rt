@@ -1,12 +1,12 @@
 // The machine with its store, the screen on which it types, the record of what was done, the console and the keyboard.
-ghost use Rattle.std.specs.Prelude.{◌≡◌, ◌≤◌, ◌-◌, ◌||◌, ℕ, Option, IfSome, true, if◌then◌else◌, List, length, slice_index, nat_eq, drop};
+ghost use Rattle.std.specs.Prelude.{◌≡◌, ◌||◌, ℕ, IfSome, true, false, if◌then◌else◌, List, drop};
 ghost use Rattle.std.specs.Io.{StartsWith, WritesAtMost};
-ghost use Rattle.arrayvec.specs.ArrayVec.{array_vec_len};
-ghost use Rattle.p11_panel.specs.Script.{without_cr};
-ghost use Rattle.p11_dialogue.specs.Calls.{takes_turns};
-ghost use Rattle.p11_dialogue.specs.Deeds.{Deed, Dialogue, Given, KeyboardState, is_done, scene};
+ghost use Rattle.p11_dialogue.specs.Calls.{Frees};
+ghost use Rattle.p11_dialogue.specs.Deeds.{Deed, Dialogue, Given, KeyboardState, MayGo, Pending, Reason, is_done, is_save, scene, takes_turns};
 
 use crate::keyboard::{ESCAPE, Input, Keyboard, Press, Stop};
+use crate::line_text::{Entry, LineText, drop_return, put_text};
+use crate::script_lines::ScriptLines;
 use crate::station::{Attempt, Station, record_line, tell};
 use crate::tapes::TapeNote;
 use arrayvec::ArrayVec;
@@ -55,9 +55,11 @@ pub(crate) struct Desk<
     input: Input<K>,
     /// Keys that wait for room in the machine, the first pressed first.
     waiting: ArrayVec<u8, 4096>,
-    /// The text that is under way.
+    /// The text that is under way, if one is.
     text: LineText,
     is_under_way: bool,
+    /// The lines of a script that aren't begun.
+    script: ScriptLines<A>,
     is_screen_torn: bool,
     is_journal_torn: bool,
     is_console_torn: bool,
@@ -68,7 +70,8 @@ pub(crate) struct Desk<
 
 impl<A: Allocator, S: Store, T: Write, L: Write, O: Opening, W: Write, K: Keyboard> Model
     for Desk<A, S, T, L, O, W, K> {
-    ghost use Rattle.std.specs.Prelude.{List, Some, None, if◌then◌else◌};
+    ghost use Rattle.std.specs.Prelude.{List};
+    ghost use Rattle.p11_dialogue.specs.Calls.{pending};
     ghost use Rattle.p11_dialogue.specs.Deeds.{Deed, Dialogue, Given, Tears, scene};
 
     ghost Value = { Tears };
@@ -79,21 +82,18 @@ impl<A: Allocator, S: Store, T: Write, L: Write, O: Opening, W: Write, K: Keyboa
         × Dialogue deeds d.is_screen_torn d.is_journal_torn d.is_console_torn O.opening
         (scene d.station.panel (S.state d.station.store) (T.contents d.station.screen)
         (L.contents d.station.journal) (W.contents d.console.inner))
-        × Given deeds d.waiting.items (if d.is_under_way then Some d.text.items else None) O.keyboard d.input };
+        × Given deeds d.waiting.items (pending d.is_under_way d.text.items d.script) O.keyboard d.input };
 }
 
-/// A line that is taken, or its front: longer than any that is done, with a CR behind it.
-pub(crate) type LineText = ArrayVec<u8, 4098>;
-
-/// How a line came to its end.
+/// What became of the line that was under way.
 #[derive(Clone, Copy)]
-pub(crate) enum Entry {
-    /// It is whole.
-    Line,
-    /// It has more bytes than are kept.
-    Long,
-    /// There is no further line.
-    End,
+pub(crate) enum Outcome {
+    /// It was done, and the console has told its answer.
+    Answered,
+    /// It was refused, which is to be told.
+    Refused(Fault),
+    /// Nothing is done: a writer had failed before.
+    Torn,
 }
 
 /// How many keys the machine holds.
@@ -136,7 +136,7 @@ impl<
     K: Keyboard + Drop,
 > Desk<A, S, T, L, O, W, K> {
     /// With nothing typed, nothing recorded and nothing said.
-    pub(crate) fn new(station: Station<A, S, T, L>, console: W, input: Input<K>) -> Self
+    pub(crate) fn new(alloc: A, station: Station<A, S, T, L>, console: W, input: Input<K>) -> Self
         requires opening { scene station.panel (S.state station.store) (T.contents station.screen)
             (L.contents station.journal) (W.contents console) ≡ O.opening }
         requires keyboard { input ≡ O.keyboard }
@@ -148,6 +148,7 @@ impl<
             waiting: ArrayVec::new(),
             text: ArrayVec::new(),
             is_under_way: false,
+            script: ScriptLines::none(alloc),
             is_screen_torn: false,
             is_journal_torn: false,
             is_console_torn: false,
@@ -161,8 +162,8 @@ impl<
         ensures { (deeds : List (Deed A)) × Dialogue deeds result.is_screen_torn result.is_journal_torn
             result.is_console_torn O.opening (scene result.station.panel (S.state result.station.store)
             (T.contents result.station.screen) (L.contents result.station.journal) (W.contents result.console))
-            × (waiting : List ℕ) × (text : Option (List ℕ)) × (left : KeyboardState)
-            × Given deeds waiting text O.keyboard left }
+            × (waiting : List ℕ) × (pending : Pending) × (left : KeyboardState)
+            × Given deeds waiting pending O.keyboard left }
     {
         let Desk {
             station,
@@ -171,6 +172,7 @@ impl<
             waiting: _,
             text: _,
             is_under_way: _,
+            script: _,
             is_screen_torn,
             is_journal_torn,
             is_console_torn,
@@ -209,32 +211,47 @@ impl<
         self.note
     }
 
-    /// A line is begun that a script has, or a person has typed.
-    pub(crate) fn begin(&mut self, text: &[u8]) {
-        match line_text(text) {
-            Some(text) => {
-                self.text = text;
-                self.is_under_way = true;
+    /// A line is begun that a person has typed, unless one is under way that is to be tried.
+    pub(crate) fn begin(&mut self, alloc: A, text: &[u8]) {
+        if !self.input.is_terminal() {
+            return;
+        }
+        if !let_go(alloc, &self.text, &mut self.is_under_way) {
+            return;
+        }
+        self.is_under_way = put_text(text, &mut self.text);
+    }
+
+    /// The line that is under way. A text that can't be read as one is let go.
+    pub(crate) fn line(&mut self, alloc: A) -> Result<Line<A>, Fault> {
+        if !self.is_under_way {
+            return Err(Fault::BadLine);
+        }
+        match parse_line(alloc, self.text.as_slice()) {
+            Ok(line) => Ok(line),
+            Err(fault) => {
+                self.is_under_way = false;
+                Err(fault)
             }
-            None => self.is_under_way = false,
         }
     }
 
     /// Does the line that is under way, shows what was typed, records the line, and tells its answer unless it is refused.
-    /// No text is under way then. `None`: a writer had failed before, and nothing is done.
-    pub(crate) fn answer(&mut self, alloc: A) -> Option<Answer<A>> {
+    /// No text is under way then.
+    pub(crate) fn answer(&mut self, alloc: A) -> Outcome {
         if self.has_torn() {
-            return None;
+            return Outcome::Torn;
         }
         if !self.is_under_way {
-            return Some(Answer::Refused(Fault::BadLine));
+            return Outcome::Refused(Fault::BadLine);
         }
+        self.is_under_way = false;
         let line = match parse_line(alloc, self.text.as_slice()) {
             Ok(line) => line,
-            Err(fault) => return Some(Answer::Refused(fault)),
+            Err(fault) => return Outcome::Refused(fault),
         };
         let Some(text) = record_line(alloc, &line) else {
-            return Some(Answer::Refused(Fault::NoMemory));
+            return Outcome::Refused(Fault::NoMemory);
         };
         self.note = TapeNote::Good;
         let Attempt {
@@ -247,8 +264,7 @@ impl<
         self.is_screen_torn = !is_shown;
         self.is_journal_torn = !is_kept;
         self.is_console_torn = !tell(&mut self.console, &answer);
-        self.is_under_way = false;
-        Some(answer)
+        outcome_of(&answer)
     }
 
     /// Makes turns of a run, as many as it says unless the machine stops, shows what was typed, and records them. `None`: a
@@ -324,16 +340,35 @@ impl<
         is_pressed
     }
 
-    /// The bytes of a script. `None`: a writer had failed before, and nothing is done.
-    pub(crate) fn script(
-        &mut self,
-        alloc: A,
-        name: &[u8],
-    ) -> Option<Result<Vec<u8, A>, StoreError>> {
+    /// Asks the store for a script, whose lines are then begun one after another. `None`: a writer had failed before, and
+    /// nothing is done.
+    pub(crate) fn open_script(&mut self, alloc: A, name: &[u8]) -> Option<Result<(), StoreError>> {
         if self.is_torn() {
             return None;
         }
-        Some(self.station.store.fetch(alloc, name))
+        match self.station.store.fetch(alloc, name) {
+            Ok(bytes) => {
+                self.script = ScriptLines::of(bytes);
+                Some(Ok(()))
+            }
+            Err(error) => Some(Err(error)),
+        }
+    }
+
+    /// Begins the next line of the script, without its LF and a CR just before that, unless one is under way that is to be
+    /// tried. Of one that is too long a front is left in `line`, and it isn't begun.
+    pub(crate) fn begin_next(&mut self, alloc: A, line: &mut LineText) -> Entry {
+        if !let_go(alloc, &self.text, &mut self.is_under_way) {
+            return Entry::End;
+        }
+        match self.script.take(line) {
+            Entry::Line => {
+                self.is_under_way = put_text(line.as_slice(), &mut self.text);
+                Entry::Line
+            }
+            Entry::Long => Entry::Long,
+            Entry::End => Entry::End,
+        }
     }
 
     /// Says a piece on the console: how many bytes of it were taken.
@@ -445,30 +480,30 @@ impl<
         }
     }
 
-    /// Takes the next line for the console, without LF and a CR just before it. It is one that no person types. Of one that
-    /// is too long a front is left in `line`.
-    pub(crate) fn take_line(&mut self, line: &mut LineText) -> Entry {
+    /// Takes the next line for the console, without LF and a CR just before it, unless one is under way that is to be tried.
+    /// It is one that no person types. Of one that is too long a front is left in `line`.
+    pub(crate) fn take_line(&mut self, alloc: A, line: &mut LineText) -> Entry {
         if self.input.is_terminal() {
+            return Entry::End;
+        }
+        if !let_go(alloc, &self.text, &mut self.is_under_way) {
             return Entry::End;
         }
         match self.input.take_text(line, false) {
             Stop::LineFeed => {
                 drop_return(line);
-                copy_line(line, &mut self.text);
-                self.is_under_way = true;
+                self.is_under_way = put_text(line.as_slice(), &mut self.text);
                 Entry::Line
             }
             Stop::End => {
                 if line.is_empty() {
                     return Entry::End;
                 }
-                copy_line(line, &mut self.text);
-                self.is_under_way = true;
+                self.is_under_way = put_text(line.as_slice(), &mut self.text);
                 Entry::Line
             }
             Stop::Full => {
                 self.input.take_rest();
-                self.is_under_way = false;
                 Entry::Long
             }
             Stop::Escape => Entry::End,
@@ -514,44 +549,42 @@ fn either(one: bool, other: bool) -> bool
     one || other
 }
 
-/// Puts a line in the place of another.
-fn copy_line(line: &LineText, to: &mut LineText)
-    ensures { to.new.items ≡ line.now.items }
+/// Lets a text go that is under way, unless it is that of a line to be tried: whether none is under way then.
+fn let_go<A: Allocator>(alloc: A, text: &LineText, is_under_way: &mut bool) -> bool
+    ensures frees { Frees A text.now.items is_under_way.old is_under_way.new }
+    ensures free { result ≡ true → is_under_way.new ≡ false }
 {
-    let mut copy = LineText::new();
-    if copy.try_extend_from_slice(line.as_slice()).is_ok() {
-        *to = copy;
+    if !*is_under_way {
+        return true;
     }
-}
-
-/// A text as a line, unless it is longer.
-fn line_text(text: &[u8]) -> Option<LineText>
-    ensures { IfSome result (λ line. line.items ≡ text.now) }
-{
-    let mut line = LineText::new();
-    line.try_extend_from_slice(text).ok()?;
-    Some(line)
-}
-
-/// Drops a carriage return at the end.
-#[tactic(auto, using(crate::proofs::KeyboardLemmas::with_cr, crate::proofs::KeyboardLemmas::with_no_cr))]
-fn drop_return<const CAP: usize>(line: &mut ArrayVec<u8, CAP>)
-    ensures text { line.new.items ≡ without_cr line.old.items }
-    ensures len { array_vec_len line.new ≤ array_vec_len line.old }
-{
-    if ends_by_return(line.as_slice()) {
-        line.pop();
-    }
-}
-
-fn ends_by_return(text: &[u8]) -> bool
-    ensures { result ≡ nat_eq (slice_index text.now (length text.now - 1)) 13 }
-{
-    let len = text.len();
-    if len == 0 {
+    if !may_go(alloc, text.as_slice()) {
         return false;
     }
-    text[len - 1] == b'\r'
+    *is_under_way = false;
+    true
+}
+
+/// Whether a text need not be tried: it is no line, a run, which is made in slices, or a SAVE, which may be called off; or
+/// there is no memory to read it.
+fn may_go<A: Allocator>(alloc: A, text: &[u8]) -> bool
+    ensures { result ≡ true → (reason : Reason) × MayGo A reason text.now }
+{
+    match parse_line(alloc, text) {
+        Ok(line) => is_made_otherwise(&line),
+        Err(_) => true,
+    }
+}
+
+/// Whether a line is a run or a SAVE.
+fn is_made_otherwise<A: Allocator>(line: &Line<A>) -> bool
+    ensures { result ≡ (takes_turns line.now || is_save line.now) }
+{
+    match line {
+        Line::Step { .. } => true,
+        Line::Continue { .. } => true,
+        Line::Save { .. } => true,
+        _ => false,
+    }
 }
 
 /// The line of some turns of a run.
@@ -562,6 +595,13 @@ fn turns_line<A: Allocator>(turns: u32, until_idle: bool) -> Line<A>
         Line::Continue { turns }
     } else {
         Line::Step { turns }
+    }
+}
+
+fn outcome_of<A: Allocator>(answer: &Answer<A>) -> Outcome {
+    match answer {
+        Answer::Refused(fault) => Outcome::Refused(*fault),
+        _ => Outcome::Answered,
     }
 }
 

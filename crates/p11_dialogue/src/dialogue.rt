@@ -1,17 +1,17 @@
 // The dialogue at the console.
 use crate::console::Console;
-use crate::desk::{Entry, LineText, Opening};
+use crate::desk::Opening;
 use crate::help::{say_all, say_one};
 use crate::host::Host;
 use crate::keyboard::Keyboard;
+use crate::line_text::{Entry, LineText, MOST_BYTES};
 use crate::lines::Origin;
 use crate::names::Names;
 use crate::reasons::misfit_of;
-use crate::scripts::MOST_BYTES;
 use crate::seat::Seat;
 use crate::verb::Verb;
 use crate::wording::{first_word, is_silent};
-use p11_panel::{Answer, Fault, Store};
+use p11_panel::{Fault, Store};
 use std::alloc::Allocator;
 use std::io::Write;
 
@@ -66,7 +66,7 @@ impl<
             if !self.can_go_on() {
                 return;
             }
-            let next = match self.console.writer.inner.take_line(&mut line) {
+            let next = match self.console.writer.inner.take_line(self.alloc, &mut line) {
                 Entry::Line if line.len() <= MOST_BYTES => self.do_line(line.as_slice()),
                 Entry::Line | Entry::Long => self.refuse_long(),
                 Entry::End => self.end(),
@@ -79,8 +79,7 @@ impl<
 
     /// Refuses a line that is too long.
     fn refuse_long(&mut self) -> Next {
-        let answer = Answer::<A>::Refused(Fault::BadLine);
-        self.console.answer(&answer);
+        self.console.refuse::<A>(Fault::BadLine);
         self.console.say("  the line has more than 4,096 bytes.\n");
         Next::Line
     }

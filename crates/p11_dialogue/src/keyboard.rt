@@ -183,6 +183,7 @@ impl<K: Keyboard> Input<K> {
         ensures line { All (λ byte. byte ≢ 10) text.new.items }
         ensures plain { has_escape ≡ false → result ≢ Stop.Escape }
         ensures room { result ≡ Stop.LineFeed → array_vec_len text.new < CAP }
+        ensures full { result ≡ Stop.Full → array_vec_len text.new ≡ CAP }
     {
         text.clear();
         for _ in 0..u64::MAX {

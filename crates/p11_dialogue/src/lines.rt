@@ -1,13 +1,13 @@
 // A line of the console's language, that a person types or a script has.
 use crate::console::Console;
-use crate::desk::Opening;
+use crate::desk::{Opening, Outcome};
 use crate::host::Host;
 use crate::keyboard::{Keyboard, Press};
 use crate::reasons::{say_at, say_reason, say_refusal_at};
 use crate::seat::Seat;
 use crate::tapes::TapeNote;
 use crate::unsaved::{Change, change_of};
-use p11_panel::{Answer, Fault, Line, Store, parse_line};
+use p11_panel::{Fault, Line, Store};
 use std::alloc::Allocator;
 use std::io::Write;
 
@@ -52,8 +52,7 @@ impl<
         let note = self.console.writer.inner.tape_note();
         match origin {
             Origin::Typed => {
-                let answer = Answer::<A>::Refused(fault);
-                self.console.answer(&answer);
+                self.console.refuse::<A>(fault);
                 say_reason(&mut self.console, &self.host, line, fault, note);
             }
             Origin::Script(place) => {
@@ -67,33 +66,52 @@ impl<
         }
     }
 
-    /// Does a line of the console's language.
+    /// Does a line of the console's language, which is begun.
     pub(crate) fn obey(&mut self, text: &[u8], origin: Origin<'_>) {
-        match parse_line(self.alloc, text) {
+        match self.console.writer.inner.line(self.alloc) {
             Err(fault) => self.refuse(text, fault, origin),
             Ok(Line::Step { turns }) if !self.is_batch => self.run_by_count(turns, false, origin),
             Ok(Line::Continue { turns }) if !self.is_batch => self.run_by_count(
                 turns, true, origin,
             ),
-            Ok(line) => self.obey_line(text, line, origin),
+            Ok(line) => self.obey_line(text, &line, origin),
         }
     }
 
-    /// Does a line in one piece.
-    fn obey_line(&mut self, text: &[u8], line: Line<A>, origin: Origin<'_>) {
-        if let Line::Save { drive, name } = &line {
-            match self.saving(name.as_slice(), origin) {
-                Saving::Writes => {}
-                Saving::Nothing => return self.answer_save(text, *drive, name.as_slice(), origin),
-                Saving::Refused => return self.console.say("Not written.\n"),
+    /// Does a line in one piece, but for a `save` that writes nothing.
+    fn obey_line(&mut self, text: &[u8], line: &Line<A>, origin: Origin<'_>) {
+        if let Line::Save { drive, name } = line {
+            if !self.is_to_save(text, *drive, name.as_slice(), origin) {
+                return;
             }
-            let _ = self.written.add(self.alloc, name.as_slice());
         }
-        let change = change_of(&line);
+        self.make_change(text, change_of(line), origin);
+    }
+
+    /// Whether a `save` writes. If it doesn't it is answered.
+    fn is_to_save(&mut self, text: &[u8], drive: u32, name: &[u8], origin: Origin<'_>) -> bool {
+        match self.saving(name, origin) {
+            Saving::Writes => {
+                let _ = self.written.add(self.alloc, name);
+                true
+            }
+            Saving::Nothing => {
+                self.answer_save(text, drive, name, origin);
+                false
+            }
+            Saving::Refused => {
+                self.console.say("Not written.\n");
+                false
+            }
+        }
+    }
+
+    /// Does the line that is under way, and notes what it changes of the packs that files have.
+    fn make_change(&mut self, text: &[u8], change: Change, origin: Origin<'_>) {
         match self.console.writer.inner.answer(self.alloc) {
-            None => {}
-            Some(Answer::Refused(fault)) => self.refuse(text, fault, origin),
-            Some(_) => {
+            Outcome::Torn => {}
+            Outcome::Refused(fault) => self.refuse(text, fault, origin),
+            Outcome::Answered => {
                 self.warn_of_tape(text, origin);
                 match change {
                     Change::None => {}
@@ -169,7 +187,7 @@ impl<
             self.refuse(text, fault, origin);
             return;
         }
-        self.console.answer(&Answer::<A>::Done);
+        self.console.accept::<A>();
         if let Origin::Typed = origin {
             self.console.say("  nothing is written: --no-save.\n");
         }

@@ -1,6 +1,6 @@
 // The console, and all that stands on it.
-ghost use Rattle.std.specs.Prelude.{ℕ, Option, List};
-ghost use Rattle.p11_dialogue.specs.Deeds.{Deed, Dialogue, Given, KeyboardState, scene};
+ghost use Rattle.std.specs.Prelude.{ℕ, List};
+ghost use Rattle.p11_dialogue.specs.Deeds.{Deed, Dialogue, Given, KeyboardState, Pending, scene};
 
 use crate::console::Console;
 use crate::desk::{Desk, Ending, Opening, Parting};
@@ -105,8 +105,8 @@ impl<
         ensures { (deeds : List (Deed A)) × Dialogue deeds result.is_screen_torn result.is_journal_torn
             result.is_console_torn O.opening (scene result.station.panel (S.state result.station.store)
             (T.contents result.station.screen) (L.contents result.station.journal) (W.contents result.console))
-            × (waiting : List ℕ) × (text : Option (List ℕ)) × (left : KeyboardState)
-            × Given deeds waiting text O.keyboard left }
+            × (waiting : List ℕ) × (pending : Pending) × (left : KeyboardState)
+            × Given deeds waiting pending O.keyboard left }
     {
         let Seat {
             alloc: _,

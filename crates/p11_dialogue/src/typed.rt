@@ -8,7 +8,7 @@ use crate::reasons::say_meanings;
 use crate::seat::Seat;
 use crate::typist::Typist;
 use crate::wording::next_line;
-use p11_panel::{Answer, Fault, Store};
+use p11_panel::{Fault, Store};
 use p11_phrases::{Place, Refusal, read_phrase};
 use std::alloc::Allocator;
 use std::io::Write;
@@ -56,7 +56,7 @@ impl<
                 *place = phrase.place;
                 match &phrase.lines {
                     None => {
-                        self.console.writer.inner.begin(typed);
+                        self.console.writer.inner.begin(self.alloc, typed);
                         self.do_line(typed)
                     }
                     Some(lines) => self.do_meant(lines.as_slice()),
@@ -77,7 +77,7 @@ impl<
             self.console.say("= ");
             self.console.put(line);
             self.console.say("\n");
-            self.console.writer.inner.begin(line);
+            self.console.writer.inner.begin(self.alloc, line);
             let next = self.do_line(line);
             if next != Next::Line {
                 return next;
@@ -93,8 +93,7 @@ impl<
         } else {
             Fault::BadLine
         };
-        let answer = Answer::<A>::Refused(fault);
-        self.console.answer(&answer);
+        self.console.refuse::<A>(fault);
         self.console.say("  ");
         self.console.say(refusal.reason());
         if let Refusal::Ambiguous = refusal {

@@ -1,6 +1,6 @@
 // A whole dialogue.
-ghost use Rattle.std.specs.Prelude.{◌≡◌, ℕ, Option, List};
-ghost use Rattle.p11_dialogue.specs.Deeds.{Deed, Dialogue, Given, KeyboardState, scene};
+ghost use Rattle.std.specs.Prelude.{◌≡◌, ℕ, List};
+ghost use Rattle.p11_dialogue.specs.Deeds.{Deed, Dialogue, Given, KeyboardState, Pending, scene};
 
 use crate::desk::{Desk, Opening, Parting};
 use crate::host::Host;
@@ -30,7 +30,9 @@ pub struct Person<K, W, E> {
 /// What it takes from the keyboard are the bytes that this gives, in order, none left out and none twice: lines, or keys for
 /// the machine, or a person's keys for the program, or Ctrl-E, or keys that the machine doesn't take. In a run the machine is
 /// given the keys that are taken for it, in order, but for the last, which wait. A line that is tried is what the text is
-/// that was taken, or begun, last; and of one text a line is tried once at most.
+/// that was taken or begun last, and of one text a line is tried once at most. The next text is taken or begun once that is
+/// done, or the text is let go: as no line of the language, a run, which is made in slices, a SAVE that is called off, or
+/// one for which there is no memory. A script's lines are those of the bytes that the store gave, in order.
 pub fn converse<
     A: Allocator + Copy,
     S: Store,
@@ -49,7 +51,10 @@ pub fn converse<
         result.is_console_torn (scene station.panel (S.state station.store) (T.contents station.screen)
         (L.contents station.journal) (W.contents person.console))
         (scene result.station.panel (S.state result.station.store) (T.contents result.station.screen)
-        (L.contents result.station.journal) (W.contents result.console)) }
+        (L.contents result.station.journal) (W.contents result.console))
+        × (waiting : List ℕ) × (pending : Pending) × (left : KeyboardState)
+        × Given deeds waiting pending
+        (record { left = K.remaining person.keyboard; is_terminal = K.terminal person.keyboard }) left }
 {
     converse_from::<A, S, T, L, Brand, K, W, E>(alloc, station, person, wish)
 }
@@ -77,8 +82,8 @@ fn converse_from<
     ensures { (deeds : List (Deed A)) × Dialogue deeds result.is_screen_torn result.is_journal_torn
         result.is_console_torn O.opening (scene result.station.panel (S.state result.station.store)
         (T.contents result.station.screen) (L.contents result.station.journal) (W.contents result.console))
-        × (waiting : List ℕ) × (text : Option (List ℕ)) × (left : KeyboardState)
-        × Given deeds waiting text O.keyboard left }
+        × (waiting : List ℕ) × (pending : Pending) × (left : KeyboardState)
+        × Given deeds waiting pending O.keyboard left }
 {
     let Person {
         keyboard,
@@ -87,7 +92,7 @@ fn converse_from<
         host,
     } = person;
     let input = Input::new(keyboard);
-    let desk: Desk<A, S, T, L, O, W, K> = Desk::new(station, console, input);
+    let desk: Desk<A, S, T, L, O, W, K> = Desk::new(alloc, station, console, input);
     let mut seat = Seat::new(alloc, (desk, errors), host, wish);
     seat.hold(wish.script, wish.is_talk);
     seat.part()

@@ -1,5 +1,5 @@
 -- The lines of a record do again what was done.
-use Rattle.std.proofs.Common.{◌≡◌, ℕ, zero, suc, Bool, true, false, ◌==◌, if◌then◌else◌, List, [], ◌∷◌, ◌++◌, Option, Some, refl, sym, ap, subst, ◌∙◌, append-nil, arith, inl, inr}
+use Rattle.std.proofs.Common.{◌≡◌, ℕ, zero, suc, Bool, true, false, ◌==◌, if◌then◌else◌, List, [], ◌∷◌, ◌++◌, Option, None, Some, refl, sym, ap, subst, ◌∙◌, append-nil, arith, inl, inr}
 use Rattle.std.specs.List.{flat_map}
 use Rattle.std.proofs.lemmas.Grind.{flat_map-append}
 use Rattle.std.proofs.lemmas.List.Elements.{All-head, All-tail}
@@ -20,7 +20,7 @@ use Rattle.p11_panel.specs.Commands.{CommandStep}
 use Rattle.p11_panel.specs.Session.{SessionState, with_store, Obeys, OnFile, Keeps, fault_of}
 use Rattle.p11_store.specs.Store.{StoreState, Has, KeepsOthers, Puts, asked, with_call}
 use Rattle.p11_records.specs.Again.{RunsAreMadeAgain, RecordsDoAgain, IsRepeatable, Repeatable, Alike, Obey}
-use Rattle.p11_dialogue.specs.Deeds.{Deed, Tried, Ran, Asked, Said, Took, Escaped, Began, AsksFor, Happens, Happen, ended, is_of_run, recorded, recorded_of, run_recorded, typed_by, typed_in}
+use Rattle.p11_dialogue.specs.Deeds.{Deed, Tried, Ran, Asked, Said, Took, Escaped, Began, Typed, LetGo, Unrecorded, AsksFor, Happens, Happen, ended, is_of_run, recorded, recorded_of, run_recorded, typed_by, typed_in}
 use Rattle.p11_records.proofs.OutcomeLemmas.{Outcome, comes_to, failed, is_turns, no_other, no_stop}
 use Rattle.p11_records.proofs.RunLemmas.{Made, made_by, refused_run}
 
@@ -126,9 +126,9 @@ refused {A} (lines.Continue n) fault s s' r h = (refused_run A true n fault s.ma
 refused line fault s s' r h = other_refused line fault s s' r (comes_to line s (answers.Refused fault) s' refl h)
 
 -- a file of a script
-asked_for : (name : List ℕ) (s s' : SessionState) → s'.machine ≡ s.machine → AsksFor name s.store s'.store → Unseen s s'
-asked_for name s s' machine (inl h) = (machine, ap (λ (x : StoreState). x.files) h.1.1)
-asked_for name s s' machine (inr h) = (machine, failed name h.0 s.store s'.store h.1)
+asked_for : (name : List ℕ) (bytes : Option (List ℕ)) (s s' : SessionState) → s'.machine ≡ s.machine → AsksFor name bytes s.store s'.store → Unseen s s'
+asked_for name (Some bytes) s s' machine h = (machine, ap (λ (x : StoreState). x.files) h.1)
+asked_for name None s s' machine h = (machine, failed name h.0 s.store s'.store h.1)
 
 -- A RUN
 
@@ -227,11 +227,14 @@ deed_again : {A : Type 0} → RunsAreMadeAgain A → (deed : Deed A) (s s' t : S
 unfolding Happens recorded_of typed_by
 deed_again law (Tried line answer) s s' t r alike h = line_again law line answer s s' t r alike h
 deed_again law (Ran line answer) s s' t r alike h = line_again law line answer s s' t r alike h.0
-deed_again {A} law (Asked name) s s' t r alike h = none A s s' t (asked_for name s s' h.0 h.1) alike
+deed_again {A} law (Asked name bytes) s s' t r alike h = none A s s' t (asked_for name bytes s s' h.0 h.1) alike
 deed_again {A} law (Said text) s s' t r alike h = nothing_again A s s' t h alike
 deed_again {A} law (Took kind text) s s' t r alike h = nothing_again A s s' t h alike
 deed_again {A} law Escaped s s' t r alike h = nothing_again A s s' t h alike
 deed_again {A} law (Began text) s s' t r alike h = nothing_again A s s' t h alike
+deed_again {A} law (Typed text) s s' t r alike h = nothing_again A s s' t h alike
+deed_again {A} law (LetGo reason) s s' t r alike h = nothing_again A s s' t h alike
+deed_again {A} law Unrecorded s s' t r alike h = nothing_again A s s' t h alike
 
 obey_more : {A : Type 0} (first others : List (Line A × Answer A)) (s s' s'' : SessionState) → Obey first s s' → Obey others s' s'' → Obey (first ++ others) s s''
 unfolding Obey
