@@ -6,4 +6,5 @@ pub mod Found
 pub mod OnBus
 pub mod Prepared
 pub mod Quiet
+pub mod Reach
 pub mod View
