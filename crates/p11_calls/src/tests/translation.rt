@@ -16,9 +16,12 @@ const USER_PDR: u32 = 0o777600;
 
 const USER_PAR: u32 = 0o777640;
 
+/// How many words of memory units have here.
+const MEMORY: u32 = 0o370000;
+
 /// A new unit with words written to its registers.
 fn unit_with(rt: &impl process::Abort, words: &[(u32, u16)]) -> Kt11 {
-    let mut unit = Kt11::new();
+    let mut unit = Kt11::new(MEMORY);
     for (address, word) in words {
         assert!(rt; unit.write(*address, *word), "{address:o}");
     }
@@ -37,7 +40,7 @@ fn answers(rt: &impl process::Abort, unit: &mut Kt11, address: u32) -> bool {
 
 #[test]
 fn thirty_four_addresses_answer(rt: HostRuntime) {
-    let mut unit = Kt11::new();
+    let mut unit = Kt11::new(MEMORY);
     let mut registers = 0_u32;
     for address in 0..0o1000000 {
         if answers(&rt, &mut unit, address) {
@@ -77,4 +80,15 @@ fn reads_of_one_address_are_hits(rt: HostRuntime) {
         assert_eq!(rt; read(&rt, &mut unit, 0o1000), hits);
     }
     assert_eq!(rt; unit.audit(), 0);
+}
+
+#[test]
+fn windows_end_with_memory(rt: HostRuntime) {
+    let mut unit = Kt11::new(0o400);
+    assert_eq!(rt; unit.translate(Mode::Kernel, 0, Kind::Read), Ok(0));
+    assert_eq!(rt;
+        unit.window_word(Mode::Kernel, 0o776, Kind::Read),
+        Some(0o377)
+    );
+    assert_eq!(rt; unit.window_word(Mode::Kernel, 0o1000, Kind::Read), None);
 }
