@@ -28,7 +28,7 @@ same_bits w r q fits_r fits_q =
     ∙ sym (and_assoc r.mask w q.mask)
     ∙ ap (λ v. bit_and v r.mask) is_q
 
-both_true : (a b : Bool) → a && b ≡ true → (a ≡ true) × (b ≡ true)
+pub both_true : (a b : Bool) → a && b ≡ true → (a ≡ true) × (b ≡ true)
 both_true true b e = (refl, e)
 both_true false b e = cc
 

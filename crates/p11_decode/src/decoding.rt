@@ -1,7 +1,9 @@
 //! From a word to its instruction.
-ghost use Rattle.std.specs.Prelude.{◌≡◌, ◌<◌, ◌%◌, ◌/◌};
-ghost use Rattle.p11_decode.specs.Table.{first_fit, in_register, mode_at, named_codes, op_of, operand_at, register_at, size};
-ghost use Rattle.p11_decode.specs.Calls.Rows.{from_single, from_sized_double, from_double, from_register, from_branch, from_return, from_trap, from_operate, from_codes};
+ghost use Rattle.std.specs.Prelude.{◌≡◌, ◌<◌, ◌%◌, ◌/◌, ◌==◌, if◌then◌else◌};
+ghost use Rattle.p11_decode.specs.Table.{destination, first_fit, in_register, mode_at, named_codes, op_of, operand_at, register_at, size, source};
+ghost use Rattle.p11_decode.specs.declared.groups.ModifyOp.TheVariants.{Add, Sub};
+ghost use Rattle.p11_decode.specs.declared.op.Op.TheVariants.{Compare, Modify};
+ghost use Rattle.p11_decode.specs.Calls.Rows.{with_digit, from_single, from_call, from_branch, from_return, from_trap, from_operate, from_codes};
 
 use crate::groups::{CodesOp, CompareOp, ModifyOp, ReturnOp, SingleOp, StoreOnlyOp, TrapOp};
 use crate::op::{Condition, Count, NamedCodes, Op};
@@ -49,6 +51,13 @@ fn operand_of(bits: u16) -> Operand
     }
 }
 
+// The operand in bits 11 to 6.
+fn source_of(word: u16) -> Operand
+    ensures { result ≡ source word }
+{
+    operand_of(word >> 6)
+}
+
 // The operand that is a register itself.
 fn in_register(register: Register) -> Operand
     ensures { result ≡ in_register register }
@@ -94,89 +103,113 @@ fn named_codes_of(word: u16) -> NamedCodes
 }
 
 /// The instruction that a word is, by the instruction table; a word that is none is reserved.
-#[tactic(auto, unfolding(crate::specs::Table::op_of))]
+#[inline(always)]
 pub fn decode(word: u16) -> Op
     ensures { result ≡ op_of word }
 {
-    let size = size_of(word);
-    let destination = operand_of(word);
-    match word & 0o077700 {
-        0o005000 => Op::StoreOnly(StoreOnlyOp::Clr, size, destination),
-        0o005100 => Op::Single(SingleOp::Com, size, destination),
-        0o005200 => Op::Single(SingleOp::Inc, size, destination),
-        0o005300 => Op::Single(SingleOp::Dec, size, destination),
-        0o005400 => Op::Single(SingleOp::Neg, size, destination),
-        0o005500 => Op::Single(SingleOp::Adc, size, destination),
-        0o005600 => Op::Single(SingleOp::Sbc, size, destination),
-        0o005700 => Op::Tst(size, destination),
-        0o006000 => Op::Single(SingleOp::Ror, size, destination),
-        0o006100 => Op::Single(SingleOp::Rol, size, destination),
-        0o006200 => Op::Single(SingleOp::Asr, size, destination),
-        0o006300 => Op::Single(SingleOp::Asl, size, destination),
-        _ => decode_single(word),
-    }
-}
-
-fn decode_single(word: u16) -> Op
-    ensures { result ≡ first_fit from_single word }
-{
-    let destination = operand_of(word);
-    match word & 0o177700 {
-        0o000100 => Op::Jmp(destination),
-        0o000300 => Op::Single(SingleOp::Swab, Size::Word, destination),
-        0o006400 => Op::Mark(count_of(word)),
-        0o006500 => Op::Mfpi(destination),
-        0o006600 => Op::Mtpi(destination),
-        0o006700 => Op::StoreOnly(StoreOnlyOp::Sxt, Size::Word, destination),
-        _ => decode_sized_double(word),
-    }
-}
-
-fn decode_sized_double(word: u16) -> Op
-    ensures { result ≡ first_fit from_sized_double word }
-{
-    let size = size_of(word);
-    let source = operand_of(word >> 6);
-    let destination = operand_of(word);
+    // An arm reads its fields itself, so that none is read in vain.
     match word & 0o070000 {
-        0o010000 => Op::Mov(size, source, destination),
-        0o020000 => Op::Compare(CompareOp::Cmp, size, source, destination),
-        0o030000 => Op::Compare(CompareOp::Bit, size, source, destination),
-        0o040000 => Op::Modify(ModifyOp::Bic, size, source, destination),
-        0o050000 => Op::Modify(ModifyOp::Bis, size, source, destination),
-        _ => decode_double(word),
+        0o010000 => Op::Mov(size_of(word), source_of(word), operand_of(word)),
+        0o020000 => compare(CompareOp::Cmp, word),
+        0o030000 => compare(CompareOp::Bit, word),
+        0o040000 => modify(ModifyOp::Bic, size_of(word), word),
+        0o050000 => modify(ModifyOp::Bis, size_of(word), word),
+        0o060000 => modify(add_or_sub(word), Size::Word, word),
+        0o070000 => decode_with_register(word),
+        _ => decode_sized_single(word),
     }
 }
 
-fn decode_double(word: u16) -> Op
-    ensures { result ≡ first_fit from_double word }
+#[inline(always)]
+fn compare(op: CompareOp, word: u16) -> Op
+    ensures { result ≡ Compare op (size word) (source word) (destination word) }
 {
-    let source = operand_of(word >> 6);
-    let destination = operand_of(word);
-    match word & 0o170000 {
-        0o060000 => Op::Modify(ModifyOp::Add, Size::Word, source, destination),
-        0o160000 => Op::Modify(ModifyOp::Sub, Size::Word, source, destination),
-        _ => decode_with_register(word),
+    Op::Compare(op, size_of(word), source_of(word), operand_of(word))
+}
+
+#[inline(always)]
+fn modify(op: ModifyOp, size: Size, word: u16) -> Op
+    ensures { result ≡ Modify op size (source word) (destination word) }
+{
+    Op::Modify(op, size, source_of(word), operand_of(word))
+}
+
+// Which of ADD and SUB a word is that is one of them.
+fn add_or_sub(word: u16) -> ModifyOp
+    ensures { result ≡ (if word / 0o100000 % 2 == 0 then Add else Sub) }
+{
+    match word >> 15 & 1 {
+        0 => ModifyOp::Add,
+        _ => ModifyOp::Sub,
     }
 }
 
+// That of a word whose bits 14 to 12 are 7.
+#[inline(always)]
 fn decode_with_register(word: u16) -> Op
-    ensures { result ≡ first_fit from_register word }
+    ensures { result ≡ first_fit (with_digit 0o070000) word }
 {
     let register = first_register(word);
     let operand = operand_of(word);
     match word & 0o177000 {
-        0o004000 => Op::Jsr(register, operand),
         0o070000 => Op::Mul(register, operand),
         0o071000 => Op::Div(register, operand),
         0o072000 => Op::Ash(register, operand),
         0o073000 => Op::Ashc(register, operand),
         0o074000 => Op::Modify(ModifyOp::Xor, Size::Word, in_register(register), operand),
         0o077000 => Op::Sob(register, count_of(word)),
+        _ => Op::Reserved,
+    }
+}
+
+// That of a word whose bits 14 to 12 are 0. From here on the formats follow in the table's order.
+#[inline(always)]
+fn decode_sized_single(word: u16) -> Op
+    ensures { result ≡ first_fit (with_digit 0) word }
+{
+    match word & 0o077700 {
+        0o005000 => Op::StoreOnly(StoreOnlyOp::Clr, size_of(word), operand_of(word)),
+        0o005100 => Op::Single(SingleOp::Com, size_of(word), operand_of(word)),
+        0o005200 => Op::Single(SingleOp::Inc, size_of(word), operand_of(word)),
+        0o005300 => Op::Single(SingleOp::Dec, size_of(word), operand_of(word)),
+        0o005400 => Op::Single(SingleOp::Neg, size_of(word), operand_of(word)),
+        0o005500 => Op::Single(SingleOp::Adc, size_of(word), operand_of(word)),
+        0o005600 => Op::Single(SingleOp::Sbc, size_of(word), operand_of(word)),
+        0o005700 => Op::Tst(size_of(word), operand_of(word)),
+        0o006000 => Op::Single(SingleOp::Ror, size_of(word), operand_of(word)),
+        0o006100 => Op::Single(SingleOp::Rol, size_of(word), operand_of(word)),
+        0o006200 => Op::Single(SingleOp::Asr, size_of(word), operand_of(word)),
+        0o006300 => Op::Single(SingleOp::Asl, size_of(word), operand_of(word)),
+        _ => decode_single(word),
+    }
+}
+
+#[inline(always)]
+fn decode_single(word: u16) -> Op
+    ensures { result ≡ first_fit from_single word }
+{
+    match word & 0o177700 {
+        0o000100 => Op::Jmp(operand_of(word)),
+        0o000300 => Op::Single(SingleOp::Swab, Size::Word, operand_of(word)),
+        0o006400 => Op::Mark(count_of(word)),
+        0o006500 => Op::Mfpi(operand_of(word)),
+        0o006600 => Op::Mtpi(operand_of(word)),
+        0o006700 => Op::StoreOnly(StoreOnlyOp::Sxt, Size::Word, operand_of(word)),
+        _ => decode_call(word),
+    }
+}
+
+#[inline(always)]
+fn decode_call(word: u16) -> Op
+    ensures { result ≡ first_fit from_call word }
+{
+    match word & 0o177000 {
+        0o004000 => Op::Jsr(first_register(word), operand_of(word)),
         _ => decode_branch(word),
     }
 }
 
+#[inline(always)]
 fn decode_branch(word: u16) -> Op
     ensures { result ≡ first_fit from_branch word }
 {
@@ -201,6 +234,7 @@ fn decode_branch(word: u16) -> Op
     }
 }
 
+#[inline(always)]
 fn decode_return(word: u16) -> Op
     ensures { result ≡ first_fit from_return word }
 {
@@ -210,6 +244,7 @@ fn decode_return(word: u16) -> Op
     }
 }
 
+#[inline(always)]
 fn decode_trap(word: u16) -> Op
     ensures { result ≡ first_fit from_trap word }
 {
@@ -220,6 +255,7 @@ fn decode_trap(word: u16) -> Op
     }
 }
 
+#[inline(always)]
 fn decode_operate(word: u16) -> Op
     ensures { result ≡ first_fit from_operate word }
 {
@@ -235,6 +271,7 @@ fn decode_operate(word: u16) -> Op
     }
 }
 
+#[inline(always)]
 fn decode_codes(word: u16) -> Op
     ensures { result ≡ first_fit from_codes word }
 {

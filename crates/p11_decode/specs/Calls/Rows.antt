@@ -1,30 +1,30 @@
--- The rows of the table from a format on, which are all that is left to try for a word that no row before them fits.
-use Rattle.std.specs.Prelude.{List, drop}
+-- The rows of the table that are left to try, by what a word is known to be.
+use Rattle.std.specs.Prelude.{ℕ, List, drop, filter, bit_and, ◌==◌}
 use Rattle.p11_decode.specs.Table.{Row, table}
 
+-- the rows whose bits 14 to 12 are these
+abbrev pub with_digit : ℕ → List Row
+with_digit digit = filter (λ r. bit_and r.value 0o070000 == digit) table
+
+-- Where they are 0, the rows from a format on, which are all that is left for a word that no row before them fits.
+
 abbrev pub from_single : List Row
-from_single = drop 12 table
+from_single = drop 12 (with_digit 0)
 
-abbrev pub from_sized_double : List Row
-from_sized_double = drop 18 table
-
-abbrev pub from_double : List Row
-from_double = drop 23 table
-
-abbrev pub from_register : List Row
-from_register = drop 25 table
+abbrev pub from_call : List Row
+from_call = drop 18 (with_digit 0)
 
 abbrev pub from_branch : List Row
-from_branch = drop 32 table
+from_branch = drop 19 (with_digit 0)
 
 abbrev pub from_return : List Row
-from_return = drop 47 table
+from_return = drop 34 (with_digit 0)
 
 abbrev pub from_trap : List Row
-from_trap = drop 48 table
+from_trap = drop 35 (with_digit 0)
 
 abbrev pub from_operate : List Row
-from_operate = drop 50 table
+from_operate = drop 37 (with_digit 0)
 
 abbrev pub from_codes : List Row
-from_codes = drop 57 table
+from_codes = drop 44 (with_digit 0)
