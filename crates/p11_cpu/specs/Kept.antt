@@ -7,4 +7,5 @@ pub mod OnBus
 pub mod Prepared
 pub mod Quiet
 pub mod Reach
+pub mod Signs
 pub mod View

@@ -1,21 +1,16 @@
 //! The condition codes.
 ghost use Rattle.std.specs.Prelude.{◌≡◌};
+ghost use Rattle.p11_alu.specs.Results.{logic_codes, result_with};
 ghost use Rattle.p11_cpu.specs.Registers.{codes_of, set_codes_of};
 ghost use Rattle.p11_cpu.specs.SingleOperand.{bitwise};
+ghost use Rattle.p11_cpu.specs.Words.{width_of};
 
 use crate::hardware::Hardware;
-use crate::words::width;
-use p11_alu::{Codes, logic};
+use crate::signs::Signs;
+use crate::words::cut;
+use p11_alu::Codes;
 use p11_decode::Size;
 use std::alloc::Allocator;
-
-/// A bitwise result with its codes: C is as it was.
-#[inline(always)]
-fn bitwise(size: Size, word: u16, codes: Codes) -> (u16, Codes)
-    ensures { result ≡ bitwise size word codes }
-{
-    (word, logic(width(size), word, codes.c))
-}
 
 impl<A: Allocator> Hardware<A> {
     /// The condition codes of the status word.
@@ -25,8 +20,8 @@ impl<A: Allocator> Hardware<A> {
         ensures { result ≡ codes_of self.now }
     {
         Codes {
-            n: self.status.n,
-            z: self.status.z,
+            n: self.signs.n(),
+            z: self.signs.z(),
             v: self.status.v,
             c: self.status.c,
         }
@@ -38,55 +33,61 @@ impl<A: Allocator> Hardware<A> {
     pub fn set_codes(&mut self, codes: Codes)
         ensures { self.new ≡ set_codes_of codes self.old }
     {
-        self.status.n = codes.n;
-        self.status.z = codes.z;
+        self.signs = Signs::of_codes(codes.n, codes.z);
         self.status.v = codes.v;
         self.status.c = codes.c;
+    }
+
+    /// Sets N and Z by a result of a size, V and C as they are handed in, and gives what is stored.
+    #[tactic(auto, unfolding(crate::specs::Registers::set_codes_of))]
+    #[inline(always)]
+    pub fn set_codes_for(&mut self, size: Size, done: (u16, Codes)) -> u16
+        ensures state { self.new
+            ≡ set_codes_of (result_with (width_of size) done.0 done.1.v done.1.c).1 self.old }
+        ensures value { result ≡ done.0 }
+    {
+        let (stored, codes) = done;
+        self.signs = Signs::of(size, stored, stored);
+        self.status.v = codes.v;
+        self.status.c = codes.c;
+        stored
     }
 
     /// The same where C is as it was, so that it need not be written.
     #[tactic(auto, unfolding(crate::specs::Registers::codes_of, crate::specs::Registers::set_codes_of))]
     #[inline(always)]
-    pub fn set_nzv(&mut self, codes: Codes)
-        requires { codes.c ≡ (codes_of self.old).c }
-        ensures { self.new ≡ set_codes_of codes self.old }
+    pub fn set_nzv_for(&mut self, size: Size, done: (u16, Codes)) -> u16
+        ensures state { self.new
+            ≡ set_codes_of (result_with (width_of size) done.0 done.1.v (codes_of self.old).c).1 self.old }
+        ensures value { result ≡ done.0 }
     {
-        self.status.n = codes.n;
-        self.status.z = codes.z;
+        let (stored, codes) = done;
+        self.signs = Signs::of(size, stored, stored);
         self.status.v = codes.v;
-    }
-
-    /// Sets the condition codes of a result, and gives what it stores.
-    #[inline(always)]
-    pub fn set_codes_for(&mut self, done: (u16, Codes)) -> u16
-        ensures state { self.new ≡ set_codes_of done.1 self.old }
-        ensures value { result ≡ done.0 }
-    {
-        let (stored, codes) = done;
-        self.set_codes(codes);
-        stored
-    }
-
-    /// The same where C is as it was.
-    #[inline(always)]
-    pub fn set_nzv_for(&mut self, done: (u16, Codes)) -> u16
-        requires { done.1.c ≡ (codes_of self.old).c }
-        ensures state { self.new ≡ set_codes_of done.1 self.old }
-        ensures value { result ≡ done.0 }
-    {
-        let (stored, codes) = done;
-        self.set_nzv(codes);
         stored
     }
 
     /// Sets the codes of a bitwise result, which leaves C, and gives what it stores.
+    #[tactic(auto, unfolding(crate::specs::Registers::codes_of, crate::specs::Registers::set_codes_of, p11_alu::specs::Results::logic_codes))]
     #[inline(always)]
     pub fn set_logic_codes_for(&mut self, size: Size, word: u16) -> u16
         ensures state { self.new ≡ set_codes_of (bitwise size word (codes_of self.old)).1 self.old }
         ensures value { result ≡ (bitwise size word (codes_of self.old)).0 }
     {
-        let codes = self.codes();
-        self.set_nzv_for(bitwise(size, word, codes))
+        self.signs = Signs::of(size, word, cut(size, word));
+        self.status.v = false;
+        word
+    }
+
+    /// Sets the codes of a bitwise result, with C as it is handed in.
+    #[tactic(auto, unfolding(crate::specs::Registers::set_codes_of, p11_alu::specs::Results::logic_codes))]
+    #[inline(always)]
+    pub fn set_logic_codes(&mut self, size: Size, word: u16, c: bool)
+        ensures { self.new ≡ set_codes_of (logic_codes (width_of size) word c) self.old }
+    {
+        self.signs = Signs::of(size, word, cut(size, word));
+        self.status.v = false;
+        self.status.c = c;
     }
 
     /// Whether N is set.
@@ -95,7 +96,7 @@ impl<A: Allocator> Hardware<A> {
     pub fn is_negative(&self) -> bool
         ensures { result ≡ (codes_of self.now).n }
     {
-        self.status.n
+        self.signs.n()
     }
 
     /// Whether Z is set.
@@ -104,7 +105,7 @@ impl<A: Allocator> Hardware<A> {
     pub fn is_zero(&self) -> bool
         ensures { result ≡ (codes_of self.now).z }
     {
-        self.status.z
+        self.signs.z()
     }
 
     /// Whether V is set.

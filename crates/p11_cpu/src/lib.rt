@@ -29,6 +29,7 @@ mod quiet_turns;
 mod references;
 mod registers;
 mod service;
+mod signs;
 mod single_operand;
 mod trap;
 mod turn;

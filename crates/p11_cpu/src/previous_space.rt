@@ -7,7 +7,6 @@ use crate::hardware::Hardware;
 use crate::operand::Place;
 use crate::trap::Trap;
 use crate::turn_number::TurnNumber;
-use p11_alu::{Size as Width, logic};
 use p11_decode::{Op, Operand, Register, Size};
 use std::alloc::Allocator;
 
@@ -52,7 +51,7 @@ impl<A: Allocator> Hardware<A> {
         let source = self.find_place(turn, Size::Word, operand)?;
         let word = self.read_previous(turn, source)?;
         let top = self.step_down(Register::Sp, 2)?;
-        self.set_codes(logic(Width::Word, word, self.codes().c));
+        self.set_logic_codes_for(Size::Word, word);
         self.write(turn, Size::Word, top, word)?;
         Ok(())
     }
@@ -65,7 +64,7 @@ impl<A: Allocator> Hardware<A> {
     {
         let word = self.pop(turn)?;
         let destination = self.find_place(turn, Size::Word, operand)?;
-        self.set_codes(logic(Width::Word, word, self.codes().c));
+        self.set_logic_codes_for(Size::Word, word);
         self.write_previous(turn, destination, word)?;
         Ok(())
     }
