@@ -96,7 +96,7 @@ impl<A: Allocator> Hardware<A> {
     }
 
     /// ASH.
-    #[tactic(auto, unfolding(crate::specs::Instructions::execute_of))]
+    #[tactic(auto, unfolding(crate::specs::Instructions::execute_of, p11_alu::specs::CountedShifts::ash_of))]
     #[inline(always)]
     pub fn ash(
         &mut self,
@@ -107,8 +107,7 @@ impl<A: Allocator> Hardware<A> {
         ensures { execute_of (Op.Ash register operand) turn self.old ≡ (self.new, result) }
     {
         let count = self.value(turn, Size::Word, operand)?;
-        let (shifted, codes) = ash(self.register(register), count);
-        self.set_codes(codes);
+        let shifted = self.set_codes_for(Size::Word, ash(self.register(register), count));
         self.set_register(register, shifted);
         Ok(())
     }
