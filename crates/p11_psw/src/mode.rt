@@ -18,10 +18,7 @@ impl Mode {
         ensures bound { result < 4 }
     {
         match self {
-            Mode::Kernel => 0,
-            Mode::Mode01 => 1,
-            Mode::Mode10 => 2,
-            Mode::User => 3,
+            Mode::Kernel | Mode::Mode01 | Mode::Mode10 | Mode::User => self as u16,
         }
     }
 

@@ -17,6 +17,7 @@ pub enum Priority {
 
 impl Priority {
     /// The level as a number from 0 to 7, as it stands in bits 7:5 of the status word.
+    #[inline(always)]
     pub fn number(self) -> u16
         ensures value { result ≡ priority_number self }
         ensures bound { result < 8 }
@@ -34,6 +35,7 @@ impl Priority {
     }
 
     /// The priority that three bits say, as a number from 0 to 7.
+    #[inline(always)]
     pub fn from_number(number: u16) -> Priority
         requires { number < 8 }
         ensures { result ≡ priority_at number }

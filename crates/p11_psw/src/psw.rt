@@ -31,6 +31,7 @@ impl Psw {
 
     /// The word that shows at the status word's bus address, and that a trap or an interrupt pushes.
     #[tactic(auto, unfolding(crate::specs::Status::status_word))]
+    #[inline(always)]
     pub fn word(self) -> u16
         ensures { result ≡ status_word self }
     {
@@ -41,6 +42,7 @@ impl Psw {
 
     /// The status that a word says: every field, and nothing of bits 11:8.
     #[tactic(auto, unfolding(crate::specs::Status::status_of))]
+    #[inline(always)]
     pub fn from_word(word: u16) -> Psw
         ensures { result ≡ status_of word }
     {
@@ -58,6 +60,7 @@ impl Psw {
 
     /// The status after a trap or an interrupt whose vector has this second word.
     #[tactic(auto, unfolding(crate::specs::Sources::status_from_vector))]
+    #[inline(always)]
     pub fn from_vector(before: Psw, word: u16) -> Psw
         ensures { result ≡ status_from_vector before word }
     {
@@ -69,6 +72,7 @@ impl Psw {
 
     /// The status after RTI or RTT has popped this word.
     #[tactic(auto, unfolding(crate::specs::Sources::status_from_return))]
+    #[inline(always)]
     pub fn from_rti(before: Psw, word: u16) -> Psw
         ensures { result ≡ status_from_return before word }
     {

@@ -35,6 +35,7 @@ pub enum Vector {
 impl Vector {
     /// The address in kernel space of the vector's first word, the new PC. The new status word is in the next word. All
     /// vectors lie below the stack limit, 400 (octal).
+    #[inline(always)]
     pub fn address(self) -> u16
         ensures value { result ≡ vector_address self }
         ensures bound { result < 0o400 }
