@@ -1,3 +1,4 @@
 -- What contracts of calls say beside the definitions.
 pub mod QuietTurns
 pub mod Endings
+pub mod Pushes
