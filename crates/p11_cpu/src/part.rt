@@ -53,7 +53,7 @@ fn is_limit(address: u32) -> bool
 /// the processor or of memory management.
 #[tactic(auto, unfolding(crate::specs::References::part_at, p11_kt11::specs::Registers::answers, p11_kt11::specs::Register::register_at, p11_kt11::specs::Register::page_from))]
 #[inline(always)]
-fn is_of_a_device(address: u32) -> bool
+pub(crate) fn is_of_a_device(address: u32) -> bool
     ensures { result ≡ true → part_at address ≡ parts.Bus }
 {
     address >= ABOVE_THE_KERNEL_PAGES && address < STATUS_0_ADDRESS
