@@ -37,6 +37,7 @@ impl<A: Allocator> Unibus<A> {
 
     /// The same where the console line or the disk controller may act in the turn. The line clock needs no memory.
     #[tactic(auto, unfolding(crate::specs::Prepared::needs_memory))]
+    #[inline(never)]
     fn find_memory(&mut self, turn: u64) -> Result<(), AllocError>
         requires { turn ≤ 2 ^ 62 }
         ensures visible { self.new.visible ≡ self.old.visible }
@@ -98,6 +99,7 @@ impl<A: Allocator> Unibus<A> {
 
     /// What the console line and then the disk controller do in this turn.
     #[tactic(auto, unfolding(crate::specs::Acts::bus_after_line))]
+    #[inline(never)]
     fn line_and_disk_act(&mut self, turn: u64)
         requires turn { turn ≤ 2 ^ 62 }
         requires prepared { IsPreparedFor turn self.old.visible self.old.prepared }

@@ -2,7 +2,7 @@
 ghost use Rattle.std.specs.Prelude.{◌≡◌, true, None};
 ghost use Rattle.p11_unibus.specs.Requests.{bus_after_service, grant_of, highest_request, row, stands};
 
-use crate::due::look_ahead;
+use crate::due::{look_ahead, look_from};
 use crate::source::Source;
 use crate::unibus::Unibus;
 use p11_dl11::Section;
@@ -51,17 +51,16 @@ impl<A: Allocator> Unibus<A> {
         None
     }
 
-    /// Whether no source requests an interrupt.
-    #[tactic(auto, unfolding(crate::specs::Requests::highest_request))]
+    /// Whether no source requests an interrupt, as far as is kept.
+    #[tactic(auto, using(crate::proofs::QuietLemmas::no_grant))]
     #[inline(always)]
     fn is_quiet(&self) -> bool
-        ensures { result ≡ true → (p : Priority) → highest_request p self.now.visible ≡ None }
+        ensures { result ≡ true → (p : Priority) → grant_of p self.now.visible ≡ (self.now.visible, None) }
     {
-        let console = self.requests(Source::Receiver) | self.requests(Source::Transmitter);
-        !(self.requests(Source::Clock) | self.requests(Source::Disk) | console)
+        0 < self.quiet_until()
     }
 
-    /// Drops the request of a source.
+    /// Drops the request of a source. That of the clock leaves what is ahead of the other devices.
     #[tactic(auto, unfolding(crate::specs::Requests::bus_after_service))]
     fn acknowledge(&mut self, source: Source)
         ensures state { self.new.visible ≡ bus_after_service source self.old.visible }
@@ -69,9 +68,14 @@ impl<A: Allocator> Unibus<A> {
         ensures written { self.new.written ≡ self.old.written }
         ensures prepared { self.new.prepared ≡ self.old.prepared }
     {
+        let but_clock = self.nearest_but_clock();
         let devices = &mut *self.devices;
         match source {
-            Source::Clock => devices.clock.ack(),
+            Source::Clock => {
+                devices.clock.ack();
+                self.ahead = look_from(but_clock, devices);
+                return;
+            }
             Source::Disk => devices.disk.ack(),
             Source::Receiver => devices.line.ack(Section::Receiver),
             Source::Transmitter => devices.line.ack(Section::Transmitter),
