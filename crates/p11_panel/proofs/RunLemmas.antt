@@ -1,22 +1,16 @@
 -- One more turn of a run.
-use Rattle.std.proofs.Common.{◌≡◌, ℕ, zero, suc, ◌+◌, ◌-◌, ◌<◌, ◌≤◌, Bool, true, false, cond, ◌==◌, Option, Some, None, MatchOption, Result, Ok, Err, refl, ap, subst, sym, ◌∙◌, arith, inl, inr, add-one}
+use Rattle.std.proofs.Common.{◌≡◌, ℕ, zero, suc, ◌+◌, ◌-◌, ◌<◌, ◌≤◌, Bool, true, false, ◌==◌, Option, Some, None, MatchOption, Result, Ok, Err, refl, ap, subst, sym, ◌∙◌, arith, inl, inr}
 use Rattle.std.proofs.lemmas.Bool.{cases_lt, lt-ltb}
 use Rattle.std.specs.Result.{IsOk, is_err}
 use Rattle.p11_lines.specs.declared.answer.StopReason.{StopReason}
 use Rattle.p11_lines.specs.declared.answer.StopReason.TheVariants as reasons
-use Rattle.p11_cpu.specs.declared.turn.Turn.{Turn}
-use Rattle.p11_cpu.specs.declared.turn.Turn.TheVariants.{Ran, Halted}
-use Rattle.p11_cpu.specs.Calls.QuietTurns.{IsBusy, TakeThere}
+use Rattle.p11_cpu.specs.Calls.QuietTurns.{FollowThere, IsBusy, TakeThere}
 use Rattle.p11_cpu.specs.OperatorDevices.{is_idle}
 use Rattle.p11_cpu.specs.State.{State}
 use Rattle.p11_cpu.specs.Prepared.{needs_memory}
 use Rattle.p11_cpu.specs.Turns.{after_turns, turn_of}
 use Rattle.p11_panel.specs.Calls.Runs.{stops_idling, stop_of, IsMemory, IsRun}
 use Rattle.p11_panel.specs.Runs.{last_halted}
-
-abbrev is_halt : Turn → Bool
-is_halt Halted = true
-is_halt Ran = false
 
 -- k turns of a run of n are made, none of them halted, and no fewer stopped it
 pub record Goes (idles : State → Bool) (n : ℕ) (s : State) (k : ℕ) (s' : State) : Type 0 where
@@ -48,31 +42,6 @@ not_yet idles n k s s' h busy goes j below =
           rw same (not_over idles n k s s' h busy goes)
     ]
 
-after_one : (k : ℕ) (s s' z : State) (t : Turn) → s' ≡ after_turns k s → turn_of s' ≡ (z, t) → z ≡ after_turns (k + 1) s
-unfolding after_turns
-after_one k s s' z t e f = rw (add-one k) (ap (λ r. r.0) (sym f) ∙ ap (λ x. (turn_of x).0) e)
-
-halt_is : (b : Bool) → is_halt (cond b Halted Ran) ≡ b
-halt_is true = refl
-halt_is false = refl
-
-turn_halts : (s : State) → is_halt (turn_of s).1 ≡ (turn_of s).0.processor.halted
-unfolding turn_of
-turn_halts s = halt_is _
-
-halted_one : (k : ℕ) (s s' z : State) (t : Turn) → s' ≡ after_turns k s → turn_of s' ≡ (z, t) → last_halted (k + 1) s ≡ is_halt t
-unfolding after_turns last_halted
-halted_one k s s' z t e f = rw (add-one k, lt-ltb 0 (suc k) (omega arith)) (sym (turn_halts (after_turns k s)) ∙ ap (λ x. is_halt (turn_of x).1) (sym e) ∙ ap (λ r. is_halt r.1) f)
-
--- a turn that doesn't halt
-pub one_more : (idles : State → Bool) (n k : ℕ) (s s' z : State) → k < n → idles s' ≡ false → Goes idles n s k s' → turn_of s' ≡ (z, Ran) → Goes idles n s (k + 1) z
-one_more idles n k s s' z h busy goes f =
-    record {
-      state = after_one k s s' z Ran goes.state f;
-      ran = halted_one k s s' z Ran goes.state f;
-      goes_on = not_yet idles n k s s' h busy goes;
-    }
-
 -- what stops a run is its reason
 stops_by : (idles : State → Bool) (n k : ℕ) (s s' : State) (reason : StopReason) → stop_of idles n k s ≡ Some reason → MatchOption (stop_of idles n k s) (IsMemory reason s') (λ first. reason ≡ first)
 stops_by idles n k s s' reason e = subst (λ (o : Option StopReason). MatchOption o (IsMemory reason s') (λ first. reason ≡ first)) (sym e) refl
@@ -80,15 +49,6 @@ stops_by idles n k s s' reason e = subst (λ (o : Option StopReason). MatchOptio
 stop_halted : (idles : State → Bool) (n k : ℕ) (s : State) → last_halted k s ≡ true → stop_of idles n k s ≡ Some reasons.Halt
 unfolding stop_of
 stop_halted idles n k s e = rw e refl
-
--- a turn that halts
-pub halting_turn : (idles : State → Bool) (n k : ℕ) (s s' z : State) → k < n → idles s' ≡ false → Goes idles n s k s' → turn_of s' ≡ (z, Halted) → IsRun idles n s (k + 1) reasons.Halt z
-halting_turn idles n k s s' z h busy goes f =
-    record {
-      state = after_one k s s' z Halted goes.state f;
-      stops = stops_by idles n (k + 1) s z reasons.Halt (stop_halted idles n (k + 1) s (halted_one k s s' z Halted goes.state f));
-      goes_on = not_yet idles n k s s' h busy goes;
-    }
 
 stop_made : (idles : State → Bool) (n : ℕ) (s : State) → last_halted n s ≡ false → stop_of idles n n s ≡ Some reasons.Turns
 unfolding stop_of
@@ -176,14 +136,19 @@ busy_goes_on asked n k s h busy =
     let other : (k == n) ≡ false = grind (arith, h) in
     rw (not_halted k s busy.running, other, works_on asked (after_turns k s) busy) refl
 
--- the machine after so many turns more, and before each of them
-taken_there : (asked : Bool) (n made k : ℕ) (s s' z : State) → Goes (stops_idling asked) n s made s' → TakeThere k s' z → z ≡ after_turns (made + k) s
-taken_there asked n made k s s' z goes there = there.state ∙ ap (after_turns k) goes.state ∙ turns_after k made s
+-- so many turns more take the machine there, and before none of them the run is over
+pub record Further (asked : Bool) (n : ℕ) (s : State) (k : ℕ) (z : State) : Type 0 where
+  pub state : z ≡ after_turns k s
+  pub goes_on : (j : ℕ) → j < k → stop_of (stops_idling asked) n j s ≡ None
 
-busy_at : (asked : Bool) (n made k : ℕ) (s s' z : State) → Goes (stops_idling asked) n s made s' → TakeThere k s' z → (i : ℕ) → i < k → IsBusy (after_turns (made + i) s).processor
-busy_at asked n made k s s' z goes there i below =
-    subst (λ (x : State). IsBusy x.processor) (ap (after_turns i) goes.state ∙ turns_after i made s) (there.busy i below)
+taken_there : (asked : Bool) (n made k : ℕ) (s s' z : State) → Goes (stops_idling asked) n s made s' → z ≡ after_turns k s' → z ≡ after_turns (made + k) s
+taken_there asked n made k s s' z goes there = there ∙ ap (after_turns k) goes.state ∙ turns_after k made s
 
+busy_at : (asked : Bool) (n made i : ℕ) (s s' : State) → Goes (stops_idling asked) n s made s' → IsBusy (after_turns i s').processor → IsBusy (after_turns (made + i) s).processor
+busy_at asked n made i s s' goes busy =
+    subst (λ (x : State). IsBusy x.processor) (ap (after_turns i) goes.state ∙ turns_after i made s) busy
+
+-- before each of them the processor is busy
 none_stops : (asked : Bool) (n made k : ℕ) (s s' z : State) → made + k ≤ n → Goes (stops_idling asked) n s made s' → TakeThere k s' z → (j : ℕ) → j < made + k → stop_of (stops_idling asked) n j s ≡ None
 none_stops asked n made k s s' z h goes there j below =
     elim (cases_lt j made) [
@@ -192,28 +157,46 @@ none_stops asked n made k s s' z h goes there j below =
           let number : made + (j - made) ≡ j = omega (arith, later) in
           let within : j - made < k = omega (arith, later, below) in
           busy_goes_on asked n j s (omega (arith, h, below))
-          (subst (λ i. IsBusy (after_turns i s).processor) number (busy_at asked n made k s s' z goes there (j - made) within))
+          (subst (λ i. IsBusy (after_turns i s).processor) number (busy_at asked n made (j - made) s s' goes (there.busy (j - made) within)))
     ]
 
--- so many turns more, after which the machine hasn't halted
-pub many_more : (asked : Bool) (n made k : ℕ) (s s' z : State) → made + k ≤ n → Goes (stops_idling asked) n s made s' → TakeThere k s' z → z.processor.halted ≡ false → Goes (stops_idling asked) n s (made + k) z
-many_more asked n made k s s' z h goes there running =
-    let state = taken_there asked n made k s s' z goes there in
+pub quiet_further : (asked : Bool) (n made k : ℕ) (s s' z : State) → made + k ≤ n → Goes (stops_idling asked) n s made s' → TakeThere k s' z → Further asked n s (made + k) z
+quiet_further asked n made k s s' z h goes there =
+    record { state = taken_there asked n made k s s' z goes there.state; goes_on = none_stops asked n made k s s' z h goes there }
+
+-- before the first of them the machine doesn't idle, and before each other the processor is busy
+none_stops_behind : (asked : Bool) (n made k : ℕ) (s s' z : State) → made < n → made + k ≤ n → stops_idling asked s' ≡ false → Goes (stops_idling asked) n s made s' → FollowThere k s' z → (j : ℕ) → j < made + k → stop_of (stops_idling asked) n j s ≡ None
+none_stops_behind asked n made k s s' z some h busy goes there j below =
+    elim (cases_lt j (made + 1)) [
+      | inl earlier ↦ not_yet (stops_idling asked) n made s s' some busy goes j earlier
+      | inr later ↦
+          let number : made + suc (j - made - 1) ≡ j = omega (arith, later) in
+          let within : suc (j - made - 1) < k = omega (arith, later, below) in
+          busy_goes_on asked n j s (omega (arith, h, below))
+          (subst (λ i. IsBusy (after_turns i s).processor) number (busy_at asked n made (suc (j - made - 1)) s s' goes (there.busy (j - made - 1) within)))
+    ]
+
+pub follow_further : (asked : Bool) (n made k : ℕ) (s s' z : State) → made < n → made + k ≤ n → stops_idling asked s' ≡ false → Goes (stops_idling asked) n s made s' → FollowThere k s' z → Further asked n s (made + k) z
+follow_further asked n made k s s' z some h busy goes there =
+    record { state = taken_there asked n made k s s' z goes there.state; goes_on = none_stops_behind asked n made k s s' z some h busy goes there }
+
+-- after them the machine hasn't halted
+pub many_more : (asked : Bool) (n k : ℕ) (s z : State) → Further asked n s k z → z.processor.halted ≡ false → Goes (stops_idling asked) n s k z
+many_more asked n k s z there running =
     record {
-      state = state;
-      ran = not_halted (made + k) s (subst (λ (x : State). x.processor.halted ≡ false) state running);
-      goes_on = none_stops asked n made k s s' z h goes there;
+      state = there.state;
+      ran = not_halted k s (subst (λ (x : State). x.processor.halted ≡ false) there.state running);
+      goes_on = there.goes_on;
     }
 
--- so many turns more, the last of which halts
-pub many_that_halt : (asked : Bool) (n made k : ℕ) (s s' z : State) → 0 < k → made + k ≤ n → Goes (stops_idling asked) n s made s' → TakeThere k s' z → z.processor.halted ≡ true → IsRun (stops_idling asked) n s (made + k) reasons.Halt z
-many_that_halt asked n made k s s' z some h goes there halted =
-    let state = taken_there asked n made k s s' z goes there in
-    let last : last_halted (made + k) s ≡ true = has_halted (made + k) s (omega (arith, some)) (subst (λ (x : State). x.processor.halted ≡ true) state halted) in
+-- the last of them halts
+pub many_that_halt : (asked : Bool) (n k : ℕ) (s z : State) → 0 < k → Further asked n s k z → z.processor.halted ≡ true → IsRun (stops_idling asked) n s k reasons.Halt z
+many_that_halt asked n k s z some there halted =
+    let last : last_halted k s ≡ true = has_halted k s some (subst (λ (x : State). x.processor.halted ≡ true) there.state halted) in
     record {
-      state = state;
-      stops = stops_by (stops_idling asked) n (made + k) s z reasons.Halt (stop_halted (stops_idling asked) n (made + k) s last);
-      goes_on = none_stops asked n made k s s' z h goes there;
+      state = there.state;
+      stops = stops_by (stops_idling asked) n k s z reasons.Halt (stop_halted (stops_idling asked) n k s last);
+      goes_on = there.goes_on;
     }
 
 -- no turn was made

@@ -2,7 +2,7 @@
 ghost use Rattle.std.specs.Prelude.{◌≡◌, ◌≤◌, ◌+◌, ◌^◌};
 ghost use Rattle.p11_panel.specs.Calls.Runs.{IsRun, stops_idling};
 
-use p11_cpu::{Machine, Turn};
+use p11_cpu::Machine;
 use p11_lines::StopReason;
 use std::alloc::Allocator;
 
@@ -39,9 +39,13 @@ pub(crate) fn run<A: Allocator>(
         if idles(machine, until_idle) {
             return (made, StopReason::Idle);
         }
-        match machine.try_turn() {
-            Ok(Turn::Ran) => made += 1,
-            Ok(Turn::Halted) => return (made + 1, StopReason::Halt),
+        match machine.try_turns(turns - made) {
+            Ok(more) => {
+                made += more;
+                if machine.is_halted() {
+                    return (made, StopReason::Halt);
+                }
+            }
             Err(_) => return (made, StopReason::Memory),
         }
     }

@@ -1,7 +1,7 @@
-use Rattle.std.proofs.Common.{◌≡◌, ◌+◌, ◌≤◌, false, true, arith, ap, sym, ◌∙◌}
+use Rattle.std.proofs.Common.{◌≡◌, ◌+◌, ◌<◌, ◌≤◌, false, true, arith, ap, sym, ◌∙◌}
 use Rattle.std.specs.Result.{is_err}
 use Rattle.p11_panel.specs.Calls.Runs.{stops_idling}
-use Rattle.p11_panel.proofs.RunLemmas.{no_turn, none_more, many_more, many_that_halt, one_more, halting_turn, all_made, no_memory, needs_by, idle_now}
+use Rattle.p11_panel.proofs.RunLemmas.{no_turn, none_more, quiet_further, follow_further, many_more, many_that_halt, all_made, no_memory, needs_by, idle_now}
 use Rattle.p11_panel.proofs.run.run.Goals as goal
 
 pub loop-made-init : goal.loop-made-init
@@ -9,9 +9,10 @@ loop-made-init g c = record { turns = omega arith; within = omega arith; goes = 
 
 pub returns-then-is_halted : goal.returns-then-is_halted
 returns-then-is_halted g c =
-    many_that_halt c.args.until_idle _ _ _ _ _ _ c.if-quiet-gt0.true
-    (omega (arith, c.quiet_turns-quiet.ensures.bound, c.loop-made-test.true))
-    c.loop-made.invariant.goes c.quiet_turns-quiet.ensures.made (sym c.is_halted.ensures ∙ c.if-is_halted.true)
+    let within : c.loop-made.made + c.quiet_turns-quiet.result ≤ c.args.turns = omega (arith, c.quiet_turns-quiet.ensures.bound, c.loop-made-test.true) in
+    many_that_halt c.args.until_idle _ _ _ _ (omega (arith, c.if-quiet-gt0.true))
+    (quiet_further c.args.until_idle _ _ _ _ _ _ within c.loop-made.invariant.goes c.quiet_turns-quiet.ensures.made)
+    (sym c.is_halted.ensures ∙ c.if-is_halted.true)
 
 pub loop-made-preserved-then-quiet-gt0 : goal.loop-made-preserved-then-quiet-gt0
 loop-made-preserved-then-quiet-gt0 g c =
@@ -19,8 +20,9 @@ loop-made-preserved-then-quiet-gt0 g c =
     record {
       turns = omega (arith, c.quiet_turns-quiet.ensures.count, c.loop-made.invariant.turns);
       within = within;
-      goes = many_more c.args.until_idle _ _ _ _ _ _ within
-          c.loop-made.invariant.goes c.quiet_turns-quiet.ensures.made (sym c.is_halted.ensures ∙ c.if-is_halted.false);
+      goes = many_more c.args.until_idle _ _ _ _
+          (quiet_further c.args.until_idle _ _ _ _ _ _ within c.loop-made.invariant.goes c.quiet_turns-quiet.ensures.made)
+          (sym c.is_halted.ensures ∙ c.if-is_halted.false);
     }
 
 pub returns-then-idles : goal.returns-then-idles
@@ -33,26 +35,31 @@ pub loop-made-preserved : goal.loop-made-preserved
 loop-made-preserved g c =
     let goes = none_more c.args.until_idle _ _ _ _ _ _ (omega (arith, c.if-quiet-gt0.false)) c.loop-made.invariant.goes c.quiet_turns-quiet.ensures.made in
     let busy : stops_idling c.args.until_idle c.quiet_turns-quiet.new.self.visible ≡ false = sym c.idles.ensures ∙ c.if-idles.false in
+    let within : c.loop-made.made + c.in-Ok.more ≤ c.args.turns = omega (arith, c.in-Ok.ensures.bound, c.loop-made-test.true) in
     record {
-      turns = omega (arith, c.in-Ok-Ran.ensures.count, c.quiet_turns-quiet.ensures.count, c.if-quiet-gt0.false, c.loop-made.invariant.turns);
-      within = omega (arith, c.loop-made-test.true);
-      goes = one_more (stops_idling c.args.until_idle) _ _ _ c.quiet_turns-quiet.new.self.visible _ c.loop-made-test.true busy goes
-          (rw c.in-Ok-Ran.field-0-is at c.in-Ok-Ran.ensures.ok);
+      turns = omega (arith, c.in-Ok.ensures.count, c.quiet_turns-quiet.ensures.count, c.if-quiet-gt0.false, c.loop-made.invariant.turns);
+      within = within;
+      goes = many_more c.args.until_idle _ _ _ _
+          (follow_further c.args.until_idle _ _ _ _ _ _ c.loop-made-test.true within busy goes c.in-Ok.ensures.made)
+          (sym c.is_halted-in-Ok.ensures ∙ c.if-is_halted-2.false);
     }
 
-pub returns-in-Ok-Halted : goal.returns-in-Ok-Halted
-returns-in-Ok-Halted g c =
+pub returns-then-is_halted-2 : goal.returns-then-is_halted-2
+returns-then-is_halted-2 g c =
     let goes = none_more c.args.until_idle _ _ _ _ _ _ (omega (arith, c.if-quiet-gt0.false)) c.loop-made.invariant.goes c.quiet_turns-quiet.ensures.made in
     let busy : stops_idling c.args.until_idle c.quiet_turns-quiet.new.self.visible ≡ false = sym c.idles.ensures ∙ c.if-idles.false in
-    halting_turn (stops_idling c.args.until_idle) _ _ _ c.quiet_turns-quiet.new.self.visible _ c.loop-made-test.true busy goes
-    (rw c.in-Ok-Halted.field-0-is at c.in-Ok-Halted.ensures.ok)
+    let within : c.loop-made.made + c.in-Ok.more ≤ c.args.turns = omega (arith, c.in-Ok.ensures.bound, c.loop-made-test.true) in
+    let some : 0 < c.in-Ok.more = c.in-Ok.ensures.some in
+    many_that_halt c.args.until_idle _ _ _ _ (omega (arith, some))
+    (follow_further c.args.until_idle _ _ _ _ _ _ c.loop-made-test.true within busy goes c.in-Ok.ensures.made)
+    (sym c.is_halted-in-Ok.ensures ∙ c.if-is_halted-2.true)
 
 pub returns-in-Err : goal.returns-in-Err
 returns-in-Err g c =
     let goes = none_more c.args.until_idle _ _ _ _ _ _ (omega (arith, c.if-quiet-gt0.false)) c.loop-made.invariant.goes c.quiet_turns-quiet.ensures.made in
     let busy : stops_idling c.args.until_idle c.quiet_turns-quiet.new.self.visible ≡ false = sym c.idles.ensures ∙ c.if-idles.false in
-    no_memory (stops_idling c.args.until_idle) _ _ _ c.quiet_turns-quiet.new.self.visible c.try_turn.new.self.visible c.loop-made-test.true busy c.in-Err.ensures.err
-    (needs_by _ c.try_turn.result c.try_turn.ensures.needless (ap (λ r. is_err r) c.in-Err.is)) goes
+    no_memory (stops_idling c.args.until_idle) _ _ _ c.quiet_turns-quiet.new.self.visible c.try_turns.new.self.visible c.loop-made-test.true busy c.in-Err.ensures.err
+    (needs_by _ c.try_turns.result c.try_turns.ensures.needless (ap (λ r. is_err r) c.in-Err.is)) goes
 
 pub returns : goal.returns
 returns g c = all_made _ _ _ _ _ (omega (arith, c.loop-made-test.false, c.loop-made.invariant.within)) c.loop-made.invariant.goes
