@@ -1,5 +1,6 @@
 //! The condition codes.
-ghost use Rattle.std.specs.Prelude.{◌≡◌};
+ghost use Rattle.std.specs.Prelude.{◌≡◌, ◌==◌, int_lt, pos};
+ghost use Rattle.p11_alu.specs.Pairs.{number_of, pair_value};
 ghost use Rattle.p11_alu.specs.Results.{logic_codes, result_with};
 ghost use Rattle.p11_cpu.specs.Registers.{codes_of, set_codes_of};
 ghost use Rattle.p11_cpu.specs.SingleOperand.{bitwise};
@@ -8,7 +9,7 @@ ghost use Rattle.p11_cpu.specs.Words.{width_of};
 use crate::hardware::Hardware;
 use crate::signs::Signs;
 use crate::words::cut;
-use p11_alu::Codes;
+use p11_alu::{Codes, Pair};
 use p11_decode::Size;
 use std::alloc::Allocator;
 
@@ -65,6 +66,20 @@ impl<A: Allocator> Hardware<A> {
         self.signs = Signs::of(size, stored, stored);
         self.status.v = codes.v;
         stored
+    }
+
+    /// Sets the codes of a pair of words as one number: N and Z, which these codes have by it, and V and C as they are
+    /// handed in.
+    #[tactic(auto, unfolding(crate::specs::Registers::set_codes_of), using(crate::proofs::SignWords::negative_pair, crate::proofs::SignWords::zero_pair))]
+    #[inline(always)]
+    pub fn set_codes_of_pair(&mut self, pair: Pair, codes: Codes)
+        requires negative { codes.n ≡ int_lt (pair_value pair) (pos 0) }
+        requires zero { codes.z ≡ (number_of pair == 0) }
+        ensures { self.new ≡ set_codes_of codes self.old }
+    {
+        self.signs = Signs::of(Size::Word, pair.high, pair.high | pair.low);
+        self.status.v = codes.v;
+        self.status.c = codes.c;
     }
 
     /// Sets the codes of a bitwise result, which leaves C, and gives what it stores.

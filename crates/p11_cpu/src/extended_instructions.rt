@@ -113,7 +113,7 @@ impl<A: Allocator> Hardware<A> {
     }
 
     /// ASHC.
-    #[tactic(auto, unfolding(crate::specs::Instructions::execute_of))]
+    #[tactic(auto, unfolding(crate::specs::Instructions::execute_of, p11_alu::specs::CountedShifts::ashc_of), using(crate::proofs::SignWords::pair_again))]
     #[inline(always)]
     pub fn ashc(
         &mut self,
@@ -125,7 +125,7 @@ impl<A: Allocator> Hardware<A> {
     {
         let count = self.value(turn, Size::Word, operand)?;
         let (shifted, codes) = ashc(self.pair(register), count);
-        self.set_codes(codes);
+        self.set_codes_of_pair(shifted, codes);
         self.set_pair(register, shifted);
         Ok(())
     }
