@@ -11,8 +11,6 @@ mod finish;
 mod playing;
 mod script_reader;
 mod settings;
-#[cfg(test)]
-mod tests;
 mod told;
 
 use crate::ending::Cause;
@@ -60,7 +58,7 @@ fn words(rt: &HostRuntime) -> Result<Vec<String>, Cause> {
 }
 
 /// Makes the machine, opens the script and runs the session.
-pub(crate) fn run_script(rt: &HostRuntime, launch: &Launch<'_>) -> Result<(), Cause> {
+fn run_script(rt: &HostRuntime, launch: &Launch<'_>) -> Result<(), Cause> {
     run_counted::<Brand>(rt, launch, Blank::new(1))
 }
 
