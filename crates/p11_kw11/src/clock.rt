@@ -1,5 +1,6 @@
 //! The line clock.
 ghost use Rattle.std.specs.Prelude.{◌≡◌, ◌≤◌, ◌<◌, ◌^◌, ◌&&◌, ◌||◌, not};
+ghost use Rattle.p11_words.specs.DueTurns.{is_due};
 ghost use Rattle.p11_kw11.specs.LineClock.{clock_after_init, clock_after_period, clock_after_service, clock_after_tick, clock_after_turn, clock_after_write, clock_word, new_clock, next_tick};
 
 use p11_words::{bit, flag, is_due};
@@ -146,6 +147,14 @@ impl Kw11 {
             self.tick();
             self.due = next_tick(turn, self.period);
         }
+    }
+
+    /// Whether the line ticks by itself in this turn, and the tick requests an interrupt.
+    #[inline(always)]
+    pub fn interrupts_in(&self, turn: u64) -> bool
+        ensures { result ≡ (self.now.enable && is_due turn self.now.due) }
+    {
+        self.enable && is_due(turn, self.due)
     }
 
     /// How many turns lie between two ticks that the line makes by itself; with 0 it makes none.

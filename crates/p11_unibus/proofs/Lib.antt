@@ -5,3 +5,4 @@ pub mod Map
 pub mod FirstTurns
 pub mod DueLemmas
 mod QuietLemmas
+mod Ticks

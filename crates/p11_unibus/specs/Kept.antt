@@ -3,5 +3,6 @@ pub mod Devices
 pub mod Due
 pub mod Prepared
 pub mod Quiet
+pub mod Ticks
 pub mod View
 pub mod Written

@@ -1,5 +1,9 @@
 //! Requests for interrupts on the bus, and their grants.
-ghost use Rattle.std.specs.Prelude.{◌≡◌, true, None};
+ghost use Rattle.std.specs.Prelude.{◌≡◌, ◌≤◌, ◌^◌, true, false, None, Some};
+ghost use Rattle.p11_psw.specs.declared.vector.Vector.TheVariants as vectors;
+ghost use Rattle.p11_unibus.specs.Acts.{bus_after_clock, bus_after_turn};
+ghost use Rattle.p11_unibus.specs.Kept.Ticks.{ticks_through};
+ghost use Rattle.p11_unibus.specs.declared.source.Source.TheVariants as sources;
 ghost use Rattle.p11_unibus.specs.Requests.{bus_after_service, grant_of, highest_request, row, stands};
 
 use crate::due::{look_ahead, look_from};
@@ -110,5 +114,52 @@ impl<A: Allocator> Unibus<A> {
         let source = self.highest_request(priority)?;
         self.acknowledge(source);
         Some(source.vector())
+    }
+
+    /// Whether the line clock alone acts in a turn, and its tick interrupts a processor of a priority.
+    #[tactic(auto, unfolding(crate::specs::Kept::Ticks::ticks_through))]
+    #[inline(always)]
+    fn ticks_through(&self, turn: u64, priority: Priority) -> bool
+        ensures { result ≡ ticks_through turn priority self.now.visible }
+    {
+        self.devices.clock.interrupts_in(turn)
+            && self.rests_but_clock(turn)
+            && Source::Clock.level().is_above(priority)
+    }
+
+    /// The line clock acts in this turn, and its request is dropped at once.
+    #[tactic(auto, unfolding(crate::specs::Acts::bus_after_clock, crate::specs::Requests::bus_after_service))]
+    #[inline(always)]
+    fn tick_and_acknowledge(&mut self, turn: u64)
+        requires { turn ≤ 2 ^ 62 }
+        ensures state { self.new.visible ≡ bus_after_service sources.Clock (bus_after_clock turn self.old.visible) }
+        ensures memory { self.new.visible.memory ≡ self.old.visible.memory }
+        ensures written { self.new.written ≡ self.old.written }
+        ensures prepared { self.new.prepared ≡ self.old.prepared }
+    {
+        let but_clock = self.nearest_but_clock();
+        let devices = &mut *self.devices;
+        devices.clock.act(turn);
+        devices.clock.ack();
+        self.ahead = look_from(but_clock, devices);
+    }
+
+    /// What the devices do in a turn in which the line clock alone acts and interrupts a processor of this priority, and the
+    /// grant of its request: whether it is such a turn. If not, nothing is done.
+    #[inline(always)]
+    pub fn clock_interrupts(&mut self, turn: u64, priority: Priority) -> bool
+        requires { turn ≤ 2 ^ 62 }
+        ensures granted { result ≡ true → grant_of priority (bus_after_turn turn self.old.visible)
+            ≡ (self.new.visible, Some vectors.Clock) }
+        ensures none { result ≡ false → self.new.visible ≡ self.old.visible }
+        ensures memory { self.new.visible.memory ≡ self.old.visible.memory }
+        ensures written { self.new.written ≡ self.old.written }
+        ensures prepared { self.new.prepared ≡ self.old.prepared }
+    {
+        if !self.ticks_through(turn, priority) {
+            return false;
+        }
+        self.tick_and_acknowledge(turn);
+        true
     }
 }
