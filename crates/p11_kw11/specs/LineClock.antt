@@ -1,6 +1,6 @@
 -- The KW11-L line clock. A tick of the line sets its monitor bit, and interrupts where the program has enabled it. The
 -- operator ticks the line by hand, or sets a period after which it ticks by itself, again and again.
-use Rattle.std.specs.Prelude.{ℕ, ◌+◌, ◌/◌, ◌%◌, Bool, true, false, ◌==◌, ◌&&◌, ◌||◌, not, Option, Some, None, if◌then◌else◌}
+use Rattle.std.specs.Prelude.{ℕ, ◌+◌, Bool, true, false, ◌==◌, ◌&&◌, ◌||◌, not, Option, Some, None, if◌then◌else◌}
 use Rattle.p11_words.specs.Bits.{flag, bit_of}
 use Rattle.p11_words.specs.DueTurns.{is_due}
 

@@ -8,7 +8,7 @@ use Rattle.p11_psw.specs.declared.vector.Vector.{Vector}
 use Rattle.p11_psw.specs.declared.vector.Vector.TheVariants as vectors
 use Rattle.p11_words.specs.DueTurns.{is_due}
 use Rattle.p11_kw11.specs.LineClock.{LineClock, clock_after_tick, clock_after_turn}
-use Rattle.p11_unibus.specs.Acts.{bus_after_clock, bus_after_disk, bus_after_line, bus_after_turn}
+use Rattle.p11_unibus.specs.Acts.{bus_after_clock, bus_after_turn}
 use Rattle.p11_unibus.specs.Kept.Due.{comes_before, nearest_but_clock}
 use Rattle.p11_unibus.specs.Kept.Ticks.{ticks_through}
 use Rattle.p11_unibus.specs.Requests.{bus_after_service, grant_of, granted, highest_request}
