@@ -1,3 +1,2 @@
--- What a dialogue has done: lines tried with their answers, scripts asked for, and bytes typed.
-pub mod Deeds
-pub mod Calls
+-- What a dialogue has done is told in the words of the desk.
+pub use Rattle.p11_desk.specs.Deeds

@@ -1,8 +1,8 @@
 // What the program says to the person at the console.
 ghost use Rattle.std.specs.Prelude.{◌≡◌};
 
-use crate::whole::write_whole;
 use itoa::Buffer;
+use p11_desk::write_whole;
 use p11_lines::{StdWriter, put_answer};
 use p11_panel::{Answer, Fault};
 use std::alloc::Allocator;

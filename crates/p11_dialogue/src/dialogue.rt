@@ -1,17 +1,15 @@
 // The dialogue at the console.
 use crate::console::Console;
-use crate::desk::Opening;
 use crate::help::{say_all, say_one};
 use crate::host::Host;
-use crate::keyboard::Keyboard;
-use crate::line_text::{Entry, LineText, MOST_BYTES};
 use crate::lines::Origin;
 use crate::names::Names;
 use crate::reasons::misfit_of;
 use crate::seat::Seat;
 use crate::verb::Verb;
 use crate::wording::{first_word, is_silent};
-use p11_panel::{Fault, Store};
+use p11_desk::{Deskwork, Entry, LineText, MOST_BYTES};
+use p11_panel::Fault;
 use std::alloc::Allocator;
 use std::io::Write;
 
@@ -26,16 +24,7 @@ pub(crate) enum Next {
     End,
 }
 
-impl<
-    A: Allocator + Copy,
-    S: Store,
-    T: Write,
-    L: Write,
-    O: Opening,
-    K: Keyboard + Drop,
-    W: Write + Drop,
-    E: Host + Drop,
-> Seat<A, S, T, L, O, K, W, E> {
+impl<A: Allocator + Copy, D: Deskwork<A>, W: Write, E: Host> Seat<A, D, W, E> {
     /// Holds the dialogue to its end.
     pub(crate) fn hold(&mut self, script: Option<&[u8]>, is_talk: bool) {
         if let Some(name) = script {
@@ -119,9 +108,7 @@ impl<
             );
             if is_unsaved {
                 found = true;
-                self.console.say("Drive ");
-                self.console.number(u64::from(drive));
-                self.console.say(" has sectors that no file has: save writes them to one.\n");
+                say_unsaved(&mut self.console, drive);
             }
         }
         found
@@ -182,6 +169,13 @@ impl<
             say_unwritten(&mut self.console, &self.unwritten);
         }
     }
+}
+
+/// Says that no file has what was written to the pack on a drive.
+fn say_unsaved<W: Write>(console: &mut Console<W>, drive: u32) {
+    console.say("Drive ");
+    console.number(u64::from(drive));
+    console.say(" has sectors that no file has: save writes them to one.\n");
 }
 
 /// Says which files no `save` wrote.

@@ -1,13 +1,11 @@
 // A line of the console's language, that a person types or a script has.
 use crate::console::Console;
-use crate::desk::{Opening, Outcome};
 use crate::host::Host;
-use crate::keyboard::{Keyboard, Press};
 use crate::reasons::{say_at, say_reason, say_refusal_at};
 use crate::seat::Seat;
-use crate::tapes::TapeNote;
 use crate::unsaved::{Change, change_of};
-use p11_panel::{Fault, Line, Store};
+use p11_desk::{Deskwork, Outcome, Press, TapeNote};
+use p11_panel::{Fault, Line};
 use std::alloc::Allocator;
 use std::io::Write;
 
@@ -37,16 +35,7 @@ enum Saving {
     Refused,
 }
 
-impl<
-    A: Allocator + Copy,
-    S: Store,
-    T: Write,
-    L: Write,
-    O: Opening,
-    K: Keyboard + Drop,
-    W: Write + Drop,
-    E: Host + Drop,
-> Seat<A, S, T, L, O, K, W, E> {
+impl<A: Allocator + Copy, D: Deskwork<A>, W: Write, E: Host> Seat<A, D, W, E> {
     /// Says why a line is refused.
     pub(crate) fn refuse(&mut self, line: &[u8], fault: Fault, origin: Origin<'_>) {
         let note = self.console.writer.inner.tape_note();
@@ -70,22 +59,22 @@ impl<
     pub(crate) fn obey(&mut self, text: &[u8], origin: Origin<'_>) {
         match self.console.writer.inner.line(self.alloc) {
             Err(fault) => self.refuse(text, fault, origin),
-            Ok(Line::Step { turns }) if !self.is_batch => self.run_by_count(turns, false, origin),
-            Ok(Line::Continue { turns }) if !self.is_batch => self.run_by_count(
-                turns, true, origin,
-            ),
             Ok(line) => self.obey_line(text, &line, origin),
         }
     }
 
-    /// Does a line in one piece, but for a `save` that writes nothing.
+    /// Does a line: a run in slices, unless nobody watches, and any other in one piece, but for a `save` that writes nothing.
     fn obey_line(&mut self, text: &[u8], line: &Line<A>, origin: Origin<'_>) {
-        if let Line::Save { drive, name } = line {
-            if !self.is_to_save(text, *drive, name.as_slice(), origin) {
-                return;
+        match line {
+            Line::Step { turns } if !self.is_batch => self.run_by_count(*turns, false, origin),
+            Line::Continue { turns } if !self.is_batch => self.run_by_count(*turns, true, origin),
+            Line::Save { drive, name } => {
+                if self.is_to_save(text, *drive, name.as_slice(), origin) {
+                    self.make_change(text, change_of(line), origin);
+                }
             }
+            _ => self.make_change(text, change_of(line), origin),
         }
-        self.make_change(text, change_of(line), origin);
     }
 
     /// Whether a `save` writes. If it doesn't it is answered.
@@ -163,10 +152,7 @@ impl<
 
     /// Asks whether a file that is newer than a script may be written by it.
     fn agrees(&mut self, name: &[u8], script: &[u8]) -> bool {
-        self.console.put(name);
-        self.console.say(" is newer than ");
-        self.console.put(script);
-        self.console.say(": write it (y, or another key)? ");
+        ask_to_write(&mut self.console, name, script);
         for _ in 0..u64::MAX {
             match self.console.writer.inner.take_own_key() {
                 Press::Byte(key) => {
@@ -194,6 +180,14 @@ impl<
         let _ = self.unwritten.add(self.alloc, name);
         self.note_saved(drive);
     }
+}
+
+/// Asks whether a file may be written that is newer than a script.
+fn ask_to_write<W: Write>(console: &mut Console<W>, name: &[u8], script: &[u8]) {
+    console.put(name);
+    console.say(" is newer than ");
+    console.put(script);
+    console.say(": write it (y, or another key)? ");
 }
 
 /// Says a warning, of a script's line with its place.

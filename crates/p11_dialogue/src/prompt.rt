@@ -1,26 +1,14 @@
 // A line that a person types.
 use crate::console::Console;
-use crate::desk::{Desk, Opening};
 use crate::host::Host;
-use crate::keyboard::{Keyboard, Press};
 use crate::typist::{Edit, Typist};
-use p11_panel::Store;
+use p11_desk::{Deskwork, Press};
 use std::alloc::Allocator;
-use std::io::Write;
 
 /// Reads what a person types, up to the key that ends the line; whether there was such a key.
-pub(crate) fn type_line<
-    A: Allocator + Copy,
-    S: Store,
-    T: Write,
-    L: Write,
-    O: Opening,
-    W: Write,
-    K: Keyboard + Drop,
-    E: Host,
->(
+pub(crate) fn type_line<A: Allocator + Copy, D: Deskwork<A>, E: Host>(
     alloc: A,
-    console: &mut Console<Desk<A, S, T, L, O, W, K>>,
+    console: &mut Console<D>,
     host: &mut E,
     typist: &mut Typist<A>,
 ) -> bool {

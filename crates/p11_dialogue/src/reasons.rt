@@ -2,9 +2,9 @@
 use crate::console::Console;
 use crate::host::Host;
 use crate::lines::Place;
-use crate::tapes::TapeNote;
 use crate::verb::{Part, VERBS, Verb};
 use crate::wording::{first_word, word_behind};
+use p11_desk::TapeNote;
 use p11_panel::{Fault, StoreError};
 use p11_tape::{TapeFault, TapeFaultKind};
 use std::io::Write;

@@ -1,7 +1,7 @@
 // A record in which the slices of one run are one line.
-use crate::whole::write_whole;
 use arrayvec::ArrayVec;
 use itoa::Buffer;
+use p11_desk::write_whole;
 use std::io;
 use std::io::{ErrorKind, Write};
 

@@ -1,10 +1,8 @@
 // Runs of the machine in slices, between which the keyboard is asked.
 use crate::console::Console;
-use crate::desk::{Desk, Opening};
-use crate::keyboard::{ESCAPE, Keyboard, Press, Stop};
-use p11_panel::{Answer, Fault, StopReason, Store};
+use p11_desk::{Deskwork, ESCAPE, Press, Stop};
+use p11_panel::{Answer, Fault, StopReason};
 use std::alloc::Allocator;
-use std::io::Write;
 
 /// How a run is to go on.
 #[derive(Clone, Copy)]
@@ -70,15 +68,7 @@ const PATIENCE: u32 = 200;
 const KEY_TURNS: u32 = 4096;
 
 /// Takes what a person has pressed, as far as there is room for it: what is left isn't read.
-fn look_at_keys<
-    A: Allocator + Copy,
-    S: Store,
-    T: Write,
-    L: Write,
-    O: Opening,
-    W: Write,
-    K: Keyboard + Drop,
->(desk: &mut Desk<A, S, T, L, O, W, K>) -> Look {
+fn look_at_keys<A: Allocator + Copy, D: Deskwork<A>>(desk: &mut D) -> Look {
     let mut found = Look::Nothing;
     for _ in 0..u64::MAX {
         if desk.is_full() {
@@ -95,15 +85,7 @@ fn look_at_keys<
 }
 
 /// Drops what a read gives, up to Ctrl-E.
-fn drop_keys<
-    A: Allocator + Copy,
-    S: Store,
-    T: Write,
-    L: Write,
-    O: Opening,
-    W: Write,
-    K: Keyboard + Drop,
->(console: &mut Console<Desk<A, S, T, L, O, W, K>>) -> Look {
+fn drop_keys<A: Allocator + Copy, D: Deskwork<A>>(console: &mut Console<D>) -> Look {
     let mut found = Look::Nothing;
     for _ in 0..u64::MAX {
         match console.writer.inner.drop_key(found == Look::Nothing) {
@@ -120,19 +102,15 @@ fn drop_keys<
 }
 
 /// Asks the keyboard, where keys go to the machine.
-fn ask_keyboard<
-    A: Allocator + Copy,
-    S: Store,
-    T: Write,
-    L: Write,
-    O: Opening,
-    W: Write,
-    K: Keyboard + Drop,
->(course: &Course, desk: &mut Desk<A, S, T, L, O, W, K>, is_quiet: bool) -> Look {
+fn ask_keyboard<A: Allocator + Copy, D: Deskwork<A>>(
+    course: &Course,
+    desk: &mut D,
+    is_quiet: bool,
+) -> Look {
     if !course.has_keys {
         Look::Nothing
     } else if desk.is_terminal() {
-        look_at_keys(desk)
+        look_at_keys::<A, D>(desk)
     } else if is_quiet && !desk.has_waiting() {
         match desk.take_key_line() {
             Stop::LineFeed | Stop::Full => Look::Pressed,
@@ -157,17 +135,9 @@ fn next_turns(course: &Course, made: u64, most: u32) -> u32 {
 }
 
 /// Makes the next slice.
-fn make_slice<
-    A: Allocator + Copy,
-    S: Store,
-    T: Write,
-    L: Write,
-    O: Opening,
-    W: Write,
-    K: Keyboard + Drop,
->(
+fn make_slice<A: Allocator + Copy, D: Deskwork<A>>(
     alloc: A,
-    desk: &mut Desk<A, S, T, L, O, W, K>,
+    desk: &mut D,
     course: &Course,
     most: u32,
     run: &mut Run,
@@ -175,22 +145,28 @@ fn make_slice<
     let turns = next_turns(course, run.turns, most);
     let until_idle = course.until_idle || course.turns.is_none();
     match desk.make_turns(alloc, turns, until_idle) {
-        Some(
-            Answer::Stop {
-                typed,
-                reason,
-                turns,
-                pc,
-            },
-        ) => {
-            run.turns = run.turns.saturating_add(u64::from(turns));
-            run.pc = pc;
+        Some(answer) => slice_of(course, run, &answer),
+        None => Slice::End(End::Torn),
+    }
+}
+
+/// What a slice came to that has this answer.
+fn slice_of<A: Allocator>(course: &Course, run: &mut Run, answer: &Answer<A>) -> Slice {
+    match answer {
+        Answer::Stop {
+            typed,
+            reason,
+            turns,
+            pc,
+        } => {
+            run.turns = run.turns.saturating_add(u64::from(*turns));
+            run.pc = *pc;
             if let Some(last) = typed.as_slice().last() {
                 run.last = Some(*last);
             }
-            judge(course, run, reason, !typed.as_slice().is_empty())
+            judge(course, run, *reason, !typed.as_slice().is_empty())
         }
-        Some(Answer::Refused(fault)) => Slice::End(End::Refused(fault)),
+        Answer::Refused(fault) => Slice::End(End::Refused(*fault)),
         _ => Slice::End(End::Torn),
     }
 }
@@ -210,17 +186,9 @@ fn judge(course: &Course, run: &Run, reason: StopReason, has_typed: bool) -> Sli
 }
 
 /// Makes a run: in slices, between which keys go from the keyboard to the machine.
-pub(crate) fn make_run<
-    A: Allocator + Copy,
-    S: Store,
-    T: Write,
-    L: Write,
-    O: Opening,
-    W: Write,
-    K: Keyboard + Drop,
->(
+pub(crate) fn make_run<A: Allocator + Copy, D: Deskwork<A>>(
     alloc: A,
-    console: &mut Console<Desk<A, S, T, L, O, W, K>>,
+    console: &mut Console<D>,
     course: &Course,
     run: &mut Run,
 ) -> End {
@@ -228,9 +196,9 @@ pub(crate) fn make_run<
     let mut stuck = 0u32;
     for _ in 0..u64::MAX {
         let found = if stuck < PATIENCE {
-            ask_keyboard(course, &mut console.writer.inner, is_quiet)
+            ask_keyboard::<A, D>(course, &mut console.writer.inner, is_quiet)
         } else {
-            drop_keys(console)
+            drop_keys::<A, D>(console)
         };
         match found {
             Look::Escaped => return End::Escaped,
@@ -258,7 +226,7 @@ pub(crate) fn make_run<
             }
             Slice::End(end) => return end,
         }
-        stuck = if is_pressed || !is_stuck(&console.writer.inner, is_idle) {
+        stuck = if is_pressed || !is_stuck::<A, D>(&console.writer.inner, is_idle) {
             0
         } else {
             stuck.saturating_add(1)
@@ -269,15 +237,7 @@ pub(crate) fn make_run<
 
 /// Whether keys wait that perhaps nobody will take: at a terminal all that there is room for; elsewhere some, of a
 /// machine that idles.
-fn is_stuck<
-    A: Allocator + Copy,
-    S: Store,
-    T: Write,
-    L: Write,
-    O: Opening,
-    W: Write,
-    K: Keyboard + Drop,
->(desk: &Desk<A, S, T, L, O, W, K>, is_idle: bool) -> bool {
+fn is_stuck<A: Allocator + Copy, D: Deskwork<A>>(desk: &D, is_idle: bool) -> bool {
     if desk.is_terminal() {
         desk.is_full()
     } else {

@@ -1,26 +1,15 @@
 // The lines of a script.
-use crate::desk::Opening;
 use crate::host::Host;
-use crate::keyboard::Keyboard;
-use crate::line_text::{Entry, LineText, MOST_BYTES};
 use crate::lines::{Origin, Place};
 use crate::reasons::say_no_script;
 use crate::seat::Seat;
 use crate::wording::is_silent;
-use p11_panel::{Fault, Store, StoreError};
+use p11_desk::{Deskwork, Entry, LineText, MOST_BYTES};
+use p11_panel::{Fault, StoreError};
 use std::alloc::Allocator;
 use std::io::Write;
 
-impl<
-    A: Allocator + Copy,
-    S: Store,
-    T: Write,
-    L: Write,
-    O: Opening,
-    K: Keyboard + Drop,
-    W: Write + Drop,
-    E: Host + Drop,
-> Seat<A, S, T, L, O, K, W, E> {
+impl<A: Allocator + Copy, D: Deskwork<A>, W: Write, E: Host> Seat<A, D, W, E> {
     /// Does the lines of a script.
     pub(crate) fn do_script(&mut self, name: &[u8]) {
         match self.console.writer.inner.open_script(self.alloc, name) {

@@ -1,14 +1,9 @@
 // The console, and all that stands on it.
-ghost use Rattle.std.specs.Prelude.{ℕ, List};
-ghost use Rattle.p11_dialogue.specs.Deeds.{Deed, Dialogue, Given, KeyboardState, Pending, scene};
-
 use crate::console::Console;
-use crate::desk::{Desk, Ending, Opening, Parting};
 use crate::host::Host;
-use crate::keyboard::Keyboard;
 use crate::names::Names;
 use crate::unsaved::SavedPacks;
-use p11_panel::Store;
+use p11_desk::{Deskwork, Ending};
 use std::alloc::Allocator;
 use std::io::Write;
 
@@ -30,19 +25,10 @@ pub struct Wish<'a> {
 }
 
 /// The console, and all that stands on it.
-pub(crate) struct Seat<
-    A: Allocator,
-    S: Store,
-    T: Write,
-    L: Write,
-    O: Opening,
-    K: Keyboard,
-    W: Write,
-    E,
-> {
+pub(crate) struct Seat<A: Allocator, D, W, E> {
     pub(crate) alloc: A,
     /// What it says goes through the desk, which has it among the deeds.
-    pub(crate) console: Console<Desk<A, S, T, L, O, W, K>>,
+    pub(crate) console: Console<D>,
     /// For what is said of a script that nobody watches.
     pub(crate) errors: Console<W>,
     pub(crate) host: E,
@@ -65,22 +51,8 @@ pub(crate) struct Seat<
     pub(crate) lacks_script: bool,
 }
 
-impl<
-    A: Allocator + Copy,
-    S: Store,
-    T: Write,
-    L: Write,
-    O: Opening,
-    K: Keyboard + Drop,
-    W: Write + Drop,
-    E: Host + Drop,
-> Seat<A, S, T, L, O, K, W, E> {
-    pub(crate) fn new(
-        alloc: A,
-        (desk, errors): (Desk<A, S, T, L, O, W, K>, W),
-        host: E,
-        wish: &Wish<'_>,
-    ) -> Self {
+impl<A: Allocator + Copy, D: Deskwork<A>, W: Write + Drop, E: Host + Drop> Seat<A, D, W, E> {
+    pub(crate) fn new(alloc: A, (desk, errors): (D, W), host: E, wish: &Wish<'_>) -> Self {
         Seat {
             alloc,
             console: Console::new(desk),
@@ -100,14 +72,8 @@ impl<
         }
     }
 
-    /// Leaves it: what is left.
-    pub(crate) fn part(self) -> Parting<A, S, T, L, W>
-        ensures { (deeds : List (Deed A)) × Dialogue deeds result.is_screen_torn result.is_journal_torn
-            result.is_console_torn O.opening (scene result.station.panel (S.state result.station.store)
-            (T.contents result.station.screen) (L.contents result.station.journal) (W.contents result.console))
-            × (waiting : List ℕ) × (pending : Pending) × (left : KeyboardState)
-            × Given deeds waiting pending O.keyboard left }
-    {
+    /// Leaves it: the desk, and what the console and its scripts came to.
+    pub(crate) fn leave(self) -> (D, Ending) {
         let Seat {
             alloc: _,
             console,
@@ -126,13 +92,16 @@ impl<
             lacks_script,
         } = self;
         let is_console_torn = console.is_torn() || errors.is_torn();
-        console.into_inner().part(Ending {
+        let ending = Ending {
             is_console_torn,
             has_refused,
             lacks_script,
-        })
+        };
+        (console.into_inner(), ending)
     }
+}
 
+impl<A: Allocator + Copy, D: Deskwork<A>, W: Write, E: Host> Seat<A, D, W, E> {
     /// Whether a person sits at the keyboard.
     pub(crate) fn is_terminal(&self) -> bool {
         self.console.writer.inner.is_terminal()
@@ -140,6 +109,6 @@ impl<
 
     /// Whether no writer has failed.
     pub(crate) fn can_go_on(&self) -> bool {
-        !self.console.writer.inner.has_torn() && !self.console.is_torn() && !self.errors.is_torn()
+        !self.console.writer.inner.is_over() && !self.console.is_torn() && !self.errors.is_torn()
     }
 }

@@ -1,28 +1,19 @@
 // Runs that a line asks for.
-use crate::desk::Opening;
+use crate::console::Console;
 use crate::dialogue::Next;
 use crate::host::Host;
-use crate::keyboard::Keyboard;
 use crate::lines::Origin;
 use crate::running::{Course, End, Run, make_run, reason_word};
 use crate::seat::Seat;
-use p11_panel::{Fault, Store};
+use p11_desk::Deskwork;
+use p11_panel::Fault;
 use std::alloc::Allocator;
 use std::io::Write;
 
 /// The most turns of a run.
 const MOST_TURNS: u32 = 100_000_000;
 
-impl<
-    A: Allocator + Copy,
-    S: Store,
-    T: Write,
-    L: Write,
-    O: Opening,
-    K: Keyboard + Drop,
-    W: Write + Drop,
-    E: Host + Drop,
-> Seat<A, S, T, L, O, K, W, E> {
+impl<A: Allocator + Copy, D: Deskwork<A>, W: Write, E: Host> Seat<A, D, W, E> {
     /// Makes a run of so many turns.
     pub(crate) fn run_by_count(&mut self, turns: u32, until_idle: bool, origin: Origin<'_>) {
         if turns > MOST_TURNS {
@@ -70,21 +61,22 @@ impl<
         }
         self.console.writer.inner.end_run();
         match end {
-            End::Stopped(reason) => self.say_stop(reason_word(reason), &run),
-            End::Escaped => self.say_stop("key", &run),
+            End::Stopped(reason) => say_stop(&mut self.console, reason_word(reason), &run),
+            End::Escaped => say_stop(&mut self.console, "key", &run),
             End::Refused(fault) => self.refuse(b"step", fault, origin),
             End::Ended | End::Torn => {}
         }
         end
     }
+}
 
-    fn say_stop(&mut self, reason: &str, run: &Run) {
-        self.console.say("STOP ");
-        self.console.say(reason);
-        self.console.say(" ");
-        self.console.number(run.turns);
-        self.console.say(" ");
-        self.console.word(run.pc);
-        self.console.say("\n");
-    }
+/// Says how a run ended.
+fn say_stop<W: Write>(console: &mut Console<W>, reason: &str, run: &Run) {
+    console.say("STOP ");
+    console.say(reason);
+    console.say(" ");
+    console.number(run.turns);
+    console.say(" ");
+    console.word(run.pc);
+    console.say("\n");
 }

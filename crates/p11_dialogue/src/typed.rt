@@ -1,14 +1,14 @@
 // Lines that a person types at the console, in words for people.
-use crate::desk::Opening;
+use crate::console::Console;
 use crate::dialogue::Next;
 use crate::host::Host;
-use crate::keyboard::Keyboard;
 use crate::prompt::type_line;
 use crate::reasons::say_meanings;
 use crate::seat::Seat;
 use crate::typist::Typist;
 use crate::wording::next_line;
-use p11_panel::{Fault, Store};
+use p11_desk::Deskwork;
+use p11_panel::Fault;
 use p11_phrases::{Place, Refusal, read_phrase};
 use std::alloc::Allocator;
 use std::io::Write;
@@ -16,16 +16,7 @@ use std::io::Write;
 /// The most lines of the language that a typed one becomes.
 const MOST_LINES: u32 = 4096;
 
-impl<
-    A: Allocator + Copy,
-    S: Store,
-    T: Write,
-    L: Write,
-    O: Opening,
-    K: Keyboard + Drop,
-    W: Write + Drop,
-    E: Host + Drop,
-> Seat<A, S, T, L, O, K, W, E> {
+impl<A: Allocator + Copy, D: Deskwork<A>, W: Write, E: Host> Seat<A, D, W, E> {
     /// Does the lines that a person types, to the end.
     pub(crate) fn do_typed_lines(&mut self) {
         let mut typist = Typist::new(self.alloc);
@@ -74,9 +65,7 @@ impl<
             }
             let (line, after) = next_line(rest);
             rest = after;
-            self.console.say("= ");
-            self.console.put(line);
-            self.console.say("\n");
+            say_meant(&mut self.console, line);
             self.console.writer.inner.begin(self.alloc, line);
             let next = self.do_line(line);
             if next != Next::Line {
@@ -102,4 +91,11 @@ impl<
         self.console.say(".\n");
         Next::Line
     }
+}
+
+/// Says a line of the language that a typed one means.
+fn say_meant<W: Write>(console: &mut Console<W>, line: &[u8]) {
+    console.say("= ");
+    console.put(line);
+    console.say("\n");
 }

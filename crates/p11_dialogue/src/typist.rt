@@ -181,20 +181,28 @@ impl<A: Allocator + Copy> Typist<A> {
 
     /// The words that may stand at the cursor.
     fn candidates<E: Host>(&self, alloc: A, host: &E) -> Result<Candidates<A>, AllocError> {
-        let front = self.editor.word();
         let mut words = Candidates::new(alloc);
+        self.add_candidates(alloc, host, &mut words)?;
+        Ok(words)
+    }
+
+    /// Adds the words that may stand at the cursor.
+    fn add_candidates<E: Host>(
+        &self,
+        alloc: A,
+        host: &E,
+        words: &mut Candidates<A>,
+    ) -> Result<(), AllocError> {
         if self.editor.is_first_word() {
-            add_verbs(alloc, &mut words)?;
-            return Ok(words);
+            return add_verbs(alloc, words);
         }
         match part_at(&self.editor.text()[..self.editor.cursor()]) {
-            Some(Part::Topic) => add_verbs(alloc, &mut words)?,
-            Some(Part::Address) => add_all(alloc, &mut words, REGISTERS)?,
-            Some(Part::Access) => add_all(alloc, &mut words, ACCESS)?,
-            Some(Part::Name) => host.add_files(alloc, front, &mut words)?,
-            _ => {}
+            Some(Part::Topic) => add_verbs(alloc, words),
+            Some(Part::Address) => add_all(alloc, words, REGISTERS),
+            Some(Part::Access) => add_all(alloc, words, ACCESS),
+            Some(Part::Name) => host.add_files(alloc, self.editor.word(), words),
+            _ => Ok(()),
         }
-        Ok(words)
     }
 }
 

@@ -1,9 +1,7 @@
 // Packs whose last state no file has.
-use crate::desk::{Desk, Opening};
-use crate::keyboard::Keyboard;
-use p11_panel::{Bytes, Devices, Line, Store};
+use p11_desk::Deskwork;
+use p11_panel::{Bytes, Devices, Line};
 use std::alloc::Allocator;
-use std::io::Write;
 
 /// What a drive held when it was saved.
 struct Saved<A: Allocator> {
@@ -36,12 +34,7 @@ impl<A: Allocator + Copy> SavedPacks<A> {
     }
 
     /// A drive was saved: keeps what it holds. Where there is no memory for that, the pack counts as not saved.
-    pub(crate) fn note<S: Store, T: Write, L: Write, O: Opening, W: Write, K: Keyboard + Drop>(
-        &mut self,
-        alloc: A,
-        desk: &mut Desk<A, S, T, L, O, W, K>,
-        drive: u32,
-    ) {
+    pub(crate) fn note<D: Deskwork<A>>(&mut self, alloc: A, desk: &mut D, drive: u32) {
         self.forget(drive);
         if let Some(image) = desk.image(alloc, drive) {
             let _ = self.packs.push(Saved { drive, image });
@@ -63,12 +56,7 @@ impl<A: Allocator + Copy> SavedPacks<A> {
     }
 
     /// Whether the pack on a drive, of which sectors were written since it was mounted, is as it was saved.
-    fn has_saved<S: Store, T: Write, L: Write, O: Opening, W: Write, K: Keyboard + Drop>(
-        &self,
-        alloc: A,
-        desk: &mut Desk<A, S, T, L, O, W, K>,
-        drive: u32,
-    ) -> bool {
+    fn has_saved<D: Deskwork<A>>(&self, alloc: A, desk: &mut D, drive: u32) -> bool {
         for saved in self.packs.as_slice() {
             if saved.drive == drive {
                 return match desk.image(alloc, drive) {
@@ -81,17 +69,10 @@ impl<A: Allocator + Copy> SavedPacks<A> {
     }
 
     /// Whether the pack on a drive has sectors that no file has.
-    pub(crate) fn is_unsaved<
-        S: Store,
-        T: Write,
-        L: Write,
-        O: Opening,
-        W: Write,
-        K: Keyboard + Drop,
-    >(
+    pub(crate) fn is_unsaved<D: Deskwork<A>>(
         &self,
         alloc: A,
-        desk: &mut Desk<A, S, T, L, O, W, K>,
+        desk: &mut D,
         devices: &Devices,
         drive: u32,
     ) -> bool {

@@ -1,12 +1,10 @@
 // A whole dialogue.
 ghost use Rattle.std.specs.Prelude.{◌≡◌, ℕ, List};
-ghost use Rattle.p11_dialogue.specs.Deeds.{Deed, Dialogue, Given, KeyboardState, Pending, scene};
+ghost use Rattle.p11_desk.specs.Deeds.{Deed, Dialogue, Given, KeyboardState, Pending, scene};
 
-use crate::desk::{Desk, Opening, Parting};
 use crate::host::Host;
-use crate::keyboard::{Input, Keyboard};
 use crate::seat::{Seat, Wish};
-use crate::station::Station;
+use p11_desk::{Desk, Input, Keyboard, Opening, Parting, Station};
 use p11_panel::Store;
 use std::alloc::Allocator;
 use std::io::Write;
@@ -95,5 +93,6 @@ fn converse_from<
     let desk: Desk<A, S, T, L, O, W, K> = Desk::new(alloc, station, console, input);
     let mut seat = Seat::new(alloc, (desk, errors), host, wish);
     seat.hold(wish.script, wish.is_talk);
-    seat.part()
+    let (desk, ending) = seat.leave();
+    desk.part(ending)
 }

@@ -1,4 +1,4 @@
-use Rattle.p11_dialogue.specs.Deeds.{scene}
+use Rattle.p11_desk.specs.Deeds.{scene}
 use Rattle.p11_dialogue.proofs.whole_dialogue.converse.Given as goal
 
 abbrev pub ghosts-converse_from : goal.ghosts-converse_from
