@@ -1,7 +1,6 @@
 // The tests, one file a subject.
 mod arithmetic;
 mod bus;
-mod clock;
 mod console_line;
 mod decoded_lines;
 mod decoder;
@@ -9,9 +8,7 @@ mod disk;
 mod drive;
 mod lines_and_texts;
 mod machine;
-mod status;
 mod tapes;
 mod texts_and_memory;
 mod translation;
-mod words;
 mod writers;
