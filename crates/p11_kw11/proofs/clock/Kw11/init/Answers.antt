@@ -1,0 +1,7 @@
+use Rattle.std.proofs.Common.{rules}
+use Rattle.p11_kw11.specs.LineClock.{clock_after_init, clock_after_service}
+use Rattle.p11_kw11.proofs.clock.Kw11.init.Goals as goal
+
+pub returns : goal.returns
+unfolding clock_after_init clock_after_service
+returns c = search rules
