@@ -1,7 +1,6 @@
 -- One more deed.
-use Rattle.std.proofs.Common.{◌≡◌, ◌≢◌, ◌⊎◌, ◌-◌, ◌<◌, ◌≤◌, ℕ, Bool, true, false, not, ◌||◌, if◌then◌else◌, List, [], ◌∷◌, ◌++◌, length, take, drop, Option, Some, None, IsSomeAnd, Result, Ok, Err, inl, inr, refl, sym, ap, subst, ◌∙◌, append_assoc, append-nil, ◌==◌, nat_eq, nat_le, arith}
-use Rattle.std.specs.Prelude.{slice_index}
-use Rattle.std.proofs.lemmas.List.{length-append, length-take}
+use Rattle.std.proofs.Common.{◌≡◌, ◌≢◌, ◌⊎◌, ◌-◌, ◌<◌, ℕ, Bool, true, false, not, ◌||◌, if◌then◌else◌, List, [], ◌∷◌, ◌++◌, length, take, drop, Option, Some, None, IsSomeAnd, Result, Ok, Err, inl, inr, refl, sym, ap, subst, ◌∙◌, append_assoc, append-nil, ◌==◌, nat_le, arith}
+use Rattle.std.proofs.lemmas.List.{length-append}
 use Rattle.std.specs.Bool.{MatchBool}
 use Rattle.std.specs.List.{flat_map}
 use Rattle.std.specs.Result.{is_err}
@@ -20,7 +19,7 @@ use Rattle.p11_lines.specs.declared.line.Line.{Line}
 use Rattle.p11_panel.specs.Script.{without_cr, script_lines}
 use Rattle.p11_panel.specs.Session.{SessionState, Obeys}
 use Rattle.p11_store.specs.declared.store.StoreError.{StoreError}
-use Rattle.p11_store.specs.Store.{StoreState, Fetches, FailsToFetch}
+use Rattle.p11_store.specs.Store.{Fetches, FailsToFetch}
 use Rattle.p11_lines.specs.declared.line.Line.TheVariants as lines
 use Rattle.p11_desk.specs.Deeds.{Use, ForLine, ForLastLine, ForKeyLine, ForKeys, ForProgram, ForNothing, Deed, Tried, Ran, Asked, Said, Took, Escaped, Began, Typed, LetGo, Unrecorded, Reason, NoLine, InSlices, CalledOff, Unread, MayGo, Pending, none_pending, AsksFor, Happens, Happen, Fronts, WrittenUnless, Scene, Dialogue, KeyboardState, Takes, Given, Leave, Leaves, Fits, HasNoLf, Suits, is_done, is_of_run, is_save, keys_by, pressed_by, recorded, recorded_of, said_by, taken_by, takes_turns, told_text, typed_by, typed_in}
 use Rattle.p11_desk.specs.Calls.{Frees, bytes_of, pending, up_to}
