@@ -1,7 +1,6 @@
 -- Places behind the last byte of a kind.
-use Rattle.std.proofs.Common.{◌≡◌, ◌≢◌, ℕ, suc, zero, ◌+◌, ◌-◌, ◌<◌, Bool, true, false, not, List, slice_index, nat_eq, refl, sym, subst, ap, arith, add-one}
-use Rattle.std.proofs.lemmas.Bool.Decides.{nat_tests}
-use Rattle.p11_line_editor.specs.Line.{behind_last, is_blank}
+use Rattle.std.proofs.Common.{◌≡◌, ℕ, suc, Bool, true, false, List, slice_index, refl}
+use Rattle.p11_line_editor.specs.Line.{behind_last}
 
 -- behind a byte that passes the test
 pub behind_here : (test : ℕ → Bool) (text : List ℕ) (place before : ℕ) → place ≡ suc before → test (slice_index text before) ≡ true → behind_last test text place ≡ place

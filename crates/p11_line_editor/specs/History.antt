@@ -1,5 +1,5 @@
 -- The lines that were done before.
-use Rattle.std.specs.Prelude.{ℕ, Bool, ◌||◌, nat_eq, nat_lt, List, [], ◌∷◌, length, take, drop, Option, Some, None, option_map, if◌then◌else◌}
+use Rattle.std.specs.Prelude.{ℕ, Bool, ◌||◌, nat_eq, List, [], ◌∷◌, length, take, drop, Option, if◌then◌else◌}
 use Rattle.std.specs.List.{position_from, starts_with}
 use Rattle.std.specs.Str.{bytes_eq}
 

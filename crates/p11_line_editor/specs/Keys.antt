@@ -1,5 +1,5 @@
 -- Which key a byte or an escape sequence is.
-use Rattle.std.specs.Prelude.{ℕ, Bool, ◌&&◌, nat_le, nat_eq, List, [], ◌∷◌, Option, Some, None, unwrap_or, option_and_then, if◌then◌else◌}
+use Rattle.std.specs.Prelude.{ℕ, ◌&&◌, nat_le, nat_eq, List, [], ◌∷◌, Option, unwrap_or, if◌then◌else◌}
 use Rattle.std.specs.Map.{lookup}
 use Rattle.p11_line_editor.specs.declared.key.Key.{Key}
 use Rattle.p11_line_editor.specs.declared.key.Key.TheVariants.{Character, Left, Right, Home, End, Up, Down, Back, Delete, CutEnd, CutFront, CutWord}

@@ -1,5 +1,5 @@
 -- A line with a cursor in it, and what changes it.
-use Rattle.std.specs.Prelude.{ℕ, zero, suc, ◌+◌, Bool, true, false, not, ◌||◌, nat_le, nat_eq, List, ◌++◌, length, take, drop, slice_index, if◌then◌else◌}
+use Rattle.std.specs.Prelude.{ℕ, zero, suc, ◌+◌, Bool, true, false, not, nat_le, nat_eq, List, ◌++◌, length, take, drop, slice_index, if◌then◌else◌}
 
 -- the text, and how many of its characters are before the cursor
 pub record Line : Type 0 where

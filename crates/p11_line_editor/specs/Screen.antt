@@ -1,5 +1,5 @@
 -- What the screen gets.
-use Rattle.std.specs.Prelude.{ℕ, ◌+◌, ◌-◌, ◌/◌, nat_lt, min, max, Bool, List, [], ◌∷◌, ◌++◌, length, take, drop, codes, if◌then◌else◌}
+use Rattle.std.specs.Prelude.{ℕ, ◌+◌, ◌-◌, ◌/◌, nat_lt, min, max, List, [], ◌∷◌, ◌++◌, length, take, drop, codes, if◌then◌else◌}
 use Rattle.p11_line_editor.specs.Line.{Line}
 use Rattle.p11_line_editor.specs.declared.editor.Editor.{Editor}
 use Rattle.p11_line_editor.specs.declared.outcome.Outcome.{Outcome}

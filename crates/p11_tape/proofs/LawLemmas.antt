@@ -1,17 +1,17 @@
 -- What is read of a tape is what the grammar gives it to mean.
-use Rattle.std.proofs.Common.{◌≡◌, ℕ, suc, zero, ◌<◌, ◌≤◌, ◌+◌, ◌-◌, ◌%◌, ◌^◌, Bool, true, false, ◌&&◌, cond, List, [], ◌∷◌, ◌++◌, length, take, drop, replicate, get_or, sum, Option, Some, None, Result, Ok, Err, ◌⊎◌, inl, inr, ltb, leb, eqb, refl, sym, ap, subst, arith, ◌∙◌}
+use Rattle.std.proofs.Common.{◌≡◌, ℕ, suc, zero, ◌<◌, ◌≤◌, ◌+◌, ◌-◌, ◌%◌, ◌^◌, Bool, true, false, ◌&&◌, cond, List, [], ◌∷◌, ◌++◌, length, take, drop, get_or, sum, Option, Some, None, Result, Ok, Err, ◌⊎◌, inl, inr, ltb, leb, eqb, refl, sym, ap, arith, ◌∙◌}
 use Rattle.std.specs.Prelude.{All}
 use Rattle.std.specs.List.{flat_map, enumerate_from}
 use Rattle.std.proofs.lemmas.Bool.{eqb-true, ltb-false, leb-false, or_parts, not-false, cases_lt, cases_Bool, lt-ltb}
-use Rattle.std.proofs.lemmas.List.{append-nil, append_assoc, drop_at, take_at, length-append, length-drop, length-take-le, get_or-drop, get_or_past}
+use Rattle.std.proofs.lemmas.List.{append_assoc, drop_at, take_at, length-append, length-drop, length-take-le, get_or-drop, get_or_past}
 use Rattle.p11_tape.specs.declared.fault.TapeFault.{TapeFault}
 use Rattle.p11_tape.specs.declared.fault.TapeFaultKind.TheVariants.{Memory, Stray, Count, Short, Wrap, Sum}
-use Rattle.p11_tape.specs.Laws.Block.{Block, block_bytes, before_checksum, placed_by, IsDataBlock, IsLastBlock}
+use Rattle.p11_tape.specs.Laws.Block.{Block, block_bytes, before_checksum, placed_by}
 use Rattle.p11_tape.specs.Laws.Tape.{IsFront, IsEnd, Means, start_by}
 use Rattle.p11_tape.specs.Fault.{wrong_of, count_at, address_at}
 use Rattle.p11_tape.specs.Reading.{Meaning, reading, read_on, block_read, and_then, end_with, placed_at, start_of}
 use Rattle.p11_tape.specs.Calls.Begins.{IsWhole, NoZeroFirst}
-use Rattle.p11_tape.proofs.BlockLemmas.{IsBytes, Splits, block_there, nothing_wrong, first_of_block, length-block_bytes, count_at-block, address_at-block, whole_block}
+use Rattle.p11_tape.proofs.BlockLemmas.{IsBytes, Splits, block_there, nothing_wrong, first_of_block, length-block_bytes, count_at-block, address_at-block}
 use Rattle.p11_tape.proofs.ReadLemmas.{same_meaning, and_then_nothing, and_then_more, zeros_read, last_read, data_read, wrong_read, last_of, other_of, ended}
 
 -- A block begins with no zero, and is followed by what is after it.
