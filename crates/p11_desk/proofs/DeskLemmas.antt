@@ -1,5 +1,5 @@
 -- One more deed.
-use Rattle.std.proofs.Common.{◌≡◌, ◌≢◌, ◌⊎◌, ◌-◌, ◌<◌, ℕ, Bool, true, false, not, ◌||◌, if◌then◌else◌, List, [], ◌∷◌, ◌++◌, length, take, drop, Option, Some, None, IsSomeAnd, Result, Ok, Err, inl, inr, refl, sym, ap, subst, ◌∙◌, append_assoc, append-nil, ◌==◌, nat_le, arith}
+use Rattle.std.proofs.Common.{◌≡◌, ◌≢◌, ◌⊎◌, ◌<◌, ℕ, Bool, true, false, not, ◌||◌, if◌then◌else◌, List, [], ◌∷◌, ◌++◌, length, take, drop, Option, Some, None, IsSomeAnd, Result, Ok, Err, inl, inr, refl, sym, ap, subst, ◌∙◌, append_assoc, append-nil, ◌==◌, nat_le, arith}
 use Rattle.std.proofs.lemmas.List.{length-append}
 use Rattle.std.specs.Bool.{MatchBool}
 use Rattle.std.specs.List.{flat_map}
@@ -17,19 +17,19 @@ use Rattle.p11_lines.specs.declared.fault.Fault.TheVariants as faults
 use Rattle.p11_lines.specs.declared.answer.Answer.{Answer}
 use Rattle.p11_lines.specs.declared.line.Line.{Line}
 use Rattle.p11_panel.specs.Script.{without_cr, script_lines}
-use Rattle.p11_panel.specs.Session.{SessionState, Obeys}
+use Rattle.p11_panel.specs.Session.{SessionState}
 use Rattle.p11_store.specs.declared.store.StoreError.{StoreError}
 use Rattle.p11_store.specs.Store.{Fetches, FailsToFetch}
 use Rattle.p11_lines.specs.declared.line.Line.TheVariants as lines
 use Rattle.p11_desk.specs.Deeds.{Use, ForLine, ForLastLine, ForKeyLine, ForKeys, ForProgram, ForNothing, Deed, Tried, Ran, Asked, Said, Took, Escaped, Began, Typed, LetGo, Unrecorded, Reason, NoLine, InSlices, CalledOff, Unread, MayGo, Pending, none_pending, AsksFor, Happens, Happen, Fronts, WrittenUnless, Scene, Dialogue, KeyboardState, Takes, Given, Leave, Leaves, Fits, HasNoLf, Suits, is_done, is_of_run, is_save, keys_by, pressed_by, recorded, recorded_of, said_by, taken_by, takes_turns, told_text, typed_by, typed_in}
-use Rattle.p11_desk.specs.Calls.{Frees, bytes_of, pending, up_to}
+use Rattle.p11_desk.specs.Calls.{Attempted, Attempts, Frees, bytes_of, pending, up_to}
 use Rattle.p11_desk.specs.declared.keyboard.Press.{Press}
 use Rattle.p11_desk.specs.declared.keyboard.Press.TheVariants as presses
 use Rattle.p11_desk.specs.declared.keyboard.Stop.{Stop}
 use Rattle.p11_desk.specs.declared.keyboard.Stop.TheVariants as stops
 use Rattle.p11_desk.proofs.KeyboardLemmas.{Taken, Taken_by, Takes_joined, Takes_none, Takes_more, Takes_kept, Takes_split}
 use Rattle.p11_desk.proofs.ScriptLemmas.{without_cr_long}
-use Rattle.p11_desk.proofs.Writing.{Fronts_all, Fronts_kept}
+use Rattle.p11_desk.proofs.Writing.{Fronts_all, Fronts_kept, unless}
 
 -- some deeds lead to a scene, with these keys that wait, this still to be done, and this left of the keyboard
 abbrev pub Leads : Type 0 → Bool → Bool → Bool → Scene → Scene → List ℕ → Pending → KeyboardState → KeyboardState → Type 0
@@ -78,10 +78,9 @@ still true b c same = (refl, refl, same)
 still false b c same = subst (λ (x : Option (List ℕ)). Appends b x []) (sym same) (Appends-nil b)
 
 -- a writer that has not failed writes a text or a front of it
-fresh : (was is_whole : Bool) (b c : Option (List ℕ)) (text : List ℕ) → was ≡ false → (is_whole ≡ true → Appends b c text) → (is_whole ≡ false → Fronts b c text) → Grows was (not is_whole) b c text
-fresh true is_whole b c text e all front = cc
-fresh false true b c text e all front = all refl
-fresh false false b c text e all front = front refl
+fresh : (was is : Bool) (b c : Option (List ℕ)) (text : List ℕ) → was ≡ false → WrittenUnless is b c text → Grows was is b c text
+fresh true is b c text e next = cc
+fresh false is b c text e next = next
 
 -- what a deed takes of the keyboard, and which keys it presses
 record Moves {A : Type 0} (deed : Deed A) (waiting waiting' : List ℕ) (way way' : Pending) (left left' : KeyboardState) : Type 0 where
@@ -141,33 +140,32 @@ or_second : (a b : Bool) → (a || b) ≡ false → b ≡ false
 or_second true b e = cc
 or_second false b e = e
 
--- what a line does that is tried
-pub record Attempted {A : Type 0} (line : Line A) (answer : Answer A) (is_shown is_kept : Bool) (old new : Scene) : Type 0 where
-  pub does : Obeys line old.session answer new.session
-  pub shown : is_shown ≡ true → Appends old.screen new.screen (typed_in answer)
-  pub shown_front : is_shown ≡ false → Fronts old.screen new.screen (typed_in answer)
-  pub kept : is_kept ≡ true → Appends old.journal new.journal (recorded line answer)
-  pub kept_front : is_kept ≡ false → Fronts old.journal new.journal (recorded line answer)
+-- a line is not done
+pub undone : {A : Type 0} (st jt st' jt' ct : Bool) (opening old new : Scene) (waiting : List ℕ) (way : Pending) (first left : KeyboardState) → Leads A st jt ct opening old waiting way first left → (new ≡ old) × (st' ≡ st) × (jt' ≡ jt) → Leads A st' jt' ct opening new waiting way first left
+undone {A} st jt st' jt' ct opening old new waiting way first left so_far same =
+    subst (λ (s : Bool). Leads A s jt' ct opening new waiting way first left) (sym same.1)
+    (subst (λ (j : Bool). Leads A st j ct opening new waiting way first left) (sym same.2)
+    (subst (λ (s : Scene). Leads A st jt ct opening s waiting way first left) (sym same.0) so_far))
 
 -- a line whose answer is told; its text isn't under way any more
-pub tried : {A : Type 0} (line : Line A) (answer : Answer A) (st jt ct is_shown is_kept is_said : Bool) (opening old new : Scene) (waiting text : List ℕ) (is : Bool) (lines : List (List ℕ)) (first left : KeyboardState) → is ≡ true → line_from text ≡ Some line → (st || (jt || ct)) ≡ false → Leads A st jt ct opening old waiting (pending is text lines) first left → Attempted line answer is_shown is_kept old new → (is_said ≡ true → Appends old.console new.console (told_text answer)) → (is_said ≡ false → Fronts old.console new.console (told_text answer)) → Leads A (not is_shown) (not is_kept) (not is_said) opening new waiting (pending false text lines) first left
+pub tried : {A : Type 0} (line : Line A) (answer : Answer A) (st jt ct st' jt' is_said : Bool) (opening old new : Scene) (waiting text : List ℕ) (is : Bool) (lines : List (List ℕ)) (first left : KeyboardState) → is ≡ true → line_from text ≡ Some line → (st || (jt || ct)) ≡ false → Leads A st jt ct opening old waiting (pending is text lines) first left → Attempted line answer st' jt' old (record { session = new.session; screen = new.screen; journal = new.journal; console = old.console }) → (is_said ≡ true → Appends old.console new.console (told_text answer)) → (is_said ≡ false → Fronts old.console new.console (told_text answer)) → Leads A st' jt' (not is_said) opening new waiting (pending false text lines) first left
 unfolding Happens typed_by recorded_of said_by taken_by keys_by pressed_by Fits Leaves
-tried line answer st jt ct is_shown is_kept is_said opening old new waiting text false lines first left e reads whole so_far a said said_front = cc
-tried line answer st jt ct is_shown is_kept is_said opening old new waiting text true lines first left e reads whole so_far a said said_front =
+tried line answer st jt ct st' jt' is_said opening old new waiting text false lines first left e reads whole so_far a said said_front = cc
+tried line answer st jt ct st' jt' is_said opening old new waiting text true lines first left e reads whole so_far a said said_front =
     let others : (jt || ct) ≡ false = or_second st (jt || ct) whole in
-    more (Tried line answer) st jt ct (not is_shown) (not is_kept) (not is_said) opening old new waiting waiting (pending true text lines) (pending false text lines) first left left so_far a.does
-    (fresh st is_shown old.screen new.screen (typed_in answer) (or_first st (jt || ct) whole) a.shown a.shown_front)
-    (fresh jt is_kept old.journal new.journal (recorded line answer) (or_first jt ct others) a.kept a.kept_front)
-    (fresh ct is_said old.console new.console (told_text answer) (or_second jt ct others) said said_front)
+    more (Tried line answer) st jt ct st' jt' (not is_said) opening old new waiting waiting (pending true text lines) (pending false text lines) first left left so_far a.does
+    (fresh st st' old.screen new.screen (typed_in answer) (or_first st (jt || ct) whole) a.shown)
+    (fresh jt jt' old.journal new.journal (recorded line answer) (or_first jt ct others) a.kept)
+    (fresh ct (not is_said) old.console new.console (told_text answer) (or_second jt ct others) (unless is_said old.console new.console (told_text answer) said said_front))
     (no_keys (Tried line answer) waiting (pending true text lines) (pending false text lines) left refl tt refl refl (reads, refl))
 
 -- a line of a run
-run_more : {A : Type 0} (line : Line A) (answer : Answer A) (st jt ct is_shown is_kept : Bool) (opening old new : Scene) (waiting waiting' : List ℕ) (way : Pending) (first left : KeyboardState) → (st || jt) ≡ false → Leads A st jt ct opening old waiting way first left → is_of_run line ≡ true → Attempted line answer is_shown is_kept old new → new.console ≡ old.console → Moves (Ran line answer) waiting waiting' way way left left → Leads A (not is_shown) (not is_kept) ct opening new waiting' way first left
+run_more : {A : Type 0} (line : Line A) (answer : Answer A) (st jt ct st' jt' : Bool) (opening old new : Scene) (waiting waiting' : List ℕ) (way : Pending) (first left : KeyboardState) → (st || jt) ≡ false → Leads A st jt ct opening old waiting way first left → is_of_run line ≡ true → Attempted line answer st' jt' old new → new.console ≡ old.console → Moves (Ran line answer) waiting waiting' way way left left → Leads A st' jt' ct opening new waiting' way first left
 unfolding Happens typed_by recorded_of said_by
-run_more line answer st jt ct is_shown is_kept opening old new waiting waiting' way first left whole so_far of_run a console moves =
-    more (Ran line answer) st jt ct (not is_shown) (not is_kept) ct opening old new waiting waiting' way way first left left so_far (a.does, of_run)
-    (fresh st is_shown old.screen new.screen (typed_in answer) (or_first st jt whole) a.shown a.shown_front)
-    (fresh jt is_kept old.journal new.journal (recorded line answer) (or_second st jt whole) a.kept a.kept_front)
+run_more line answer st jt ct st' jt' opening old new waiting waiting' way first left whole so_far of_run a console moves =
+    more (Ran line answer) st jt ct st' jt' ct opening old new waiting waiting' way way first left left so_far (a.does, of_run)
+    (fresh st st' old.screen new.screen (typed_in answer) (or_first st jt whole) a.shown)
+    (fresh jt jt' old.journal new.journal (recorded line answer) (or_second st jt whole) a.kept)
     (still ct old.console new.console console) moves
 
 of_turns : {A : Type 0} (line : Line A) → takes_turns line ≡ true → is_of_run line ≡ true
@@ -185,10 +183,12 @@ turn_moves : {A : Type 0} (line : Line A) (answer : Answer A) (waiting : List �
 unfolding taken_by keys_by Fits Leaves
 turn_moves line answer waiting way left e = no_keys (Ran line answer) waiting way way left refl tt refl (turn_keys line answer e) refl
 
--- turns
-pub ran : {A : Type 0} (line : Line A) (answer : Answer A) (st jt ct is_shown is_kept : Bool) (opening old new : Scene) (waiting : List ℕ) (way : Pending) (first left : KeyboardState) → (st || jt) ≡ false → Leads A st jt ct opening old waiting way first left → takes_turns line ≡ true → Attempted line answer is_shown is_kept old new → new.console ≡ old.console → Leads A (not is_shown) (not is_kept) ct opening new waiting way first left
-ran line answer st jt ct is_shown is_kept opening old new waiting way first left whole so_far turns a console =
-    run_more line answer st jt ct is_shown is_kept opening old new waiting waiting way first left whole so_far (of_turns line turns) a console (turn_moves line answer waiting way left turns)
+-- turns, or nothing is done
+pub ran : {A : Type 0} (line : Line A) (answer : Option (Answer A)) (st jt ct st' jt' : Bool) (opening old new : Scene) (waiting : List ℕ) (way : Pending) (first left : KeyboardState) → (st || jt) ≡ false → Leads A st jt ct opening old waiting way first left → takes_turns line ≡ true → Attempts line answer st jt st' jt' old new → new.console ≡ old.console → Leads A st' jt' ct opening new waiting way first left
+ran line None st jt ct st' jt' opening old new waiting way first left whole so_far turns a console =
+    undone st jt st' jt' ct opening old new waiting way first left so_far a
+ran line (Some answer) st jt ct st' jt' opening old new waiting way first left whole so_far turns a console =
+    run_more line answer st jt ct st' jt' opening old new waiting waiting way first left whole so_far (of_turns line turns) a console (turn_moves line answer waiting way left turns)
 
 -- the keys that are pressed wait no longer
 key_moves : {A : Type 0} (text : List ℕ) (answer : Answer A) (waiting waiting' : List ℕ) (way : Pending) (count : ℕ) (left : KeyboardState) (done : Bool) → is_done answer ≡ done → count ≡ (if done then length text else 0) → StartsWith waiting text → waiting' ≡ drop count waiting → Moves (Ran (lines.Key text) answer) waiting waiting' way way left left
@@ -212,17 +212,11 @@ key_moves text answer waiting waiting' way count left false e n front rest =
     }
 
 -- keys
-pub pressed : {A : Type 0} (text : List ℕ) (answer : Answer A) (st jt ct is_shown is_kept : Bool) (opening old new : Scene) (waiting waiting' : List ℕ) (way : Pending) (first left : KeyboardState) (count : ℕ) → (st || jt) ≡ false → Leads A st jt ct opening old waiting way first left → Attempted (lines.Key text) answer is_shown is_kept old new → new.console ≡ old.console → count ≡ (if is_done answer then length text else 0) → StartsWith waiting text → waiting' ≡ drop count waiting → Leads A (not is_shown) (not is_kept) ct opening new waiting' way first left
-pressed text answer st jt ct is_shown is_kept opening old new waiting waiting' way first left count whole so_far a console n front rest =
-    run_more (lines.Key text) answer st jt ct is_shown is_kept opening old new waiting waiting' way first left whole so_far refl a console
-    (key_moves text answer waiting waiting' way count left (is_done answer) refl n front rest)
-
-pub pressed_count : {A : Type 0} (text front : List ℕ) (answer : Answer A) (count : ℕ) (done : Bool) → text ≡ front → done ≡ is_done answer → count ≡ (if done then length front else 0) → count ≡ (if is_done answer then length text else 0)
-pressed_count text front answer count done same d n =
-    n ∙ ap (λ (b : Bool). if b then length front else 0) d ∙ ap (λ (t : List ℕ). if is_done answer then length t else 0) (sym same)
-
-pub pressed_first : (waiting text front : List ℕ) → text ≡ front → StartsWith waiting front → StartsWith waiting text
-pressed_first waiting text front same first = subst (λ (t : List ℕ). StartsWith waiting t) (sym same) first
+pub pressed : {A : Type 0} (text : List ℕ) (line : Line A) (answer : Answer A) (st jt ct st' jt' : Bool) (opening old new : Scene) (waiting waiting' : List ℕ) (way : Pending) (first left : KeyboardState) (count : ℕ) (done : Bool) → line ≡ lines.Key text → (st || jt) ≡ false → Leads A st jt ct opening old waiting way first left → Attempted line answer st' jt' old new → new.console ≡ old.console → done ≡ is_done answer → count ≡ (if done then length text else 0) → StartsWith waiting text → waiting' ≡ drop count waiting → Leads A st' jt' ct opening new waiting' way first left
+pressed {A} text line answer st jt ct st' jt' opening old new waiting waiting' way first left count done keys whole so_far a console d n front rest =
+    run_more (lines.Key text) answer st jt ct st' jt' opening old new waiting waiting' way first left whole so_far refl
+    (subst (λ (l : Line A). Attempted l answer st' jt' old new) keys a) console
+    (key_moves text answer waiting waiting' way count left done (sym d) n front rest)
 
 -- WHAT IS TAKEN
 

@@ -1,11 +1,11 @@
 -- Texts that are written whole, or a front of them.
-use Rattle.std.proofs.Common.{◌≡◌, ℕ, ◌-◌, Bool, List, [], ◌++◌, length, take, drop, Option, refl, sym, ap, subst, ◌∙◌, append_assoc, append-nil, take-append-drop, arith}
+use Rattle.std.proofs.Common.{◌≡◌, ℕ, ◌-◌, Bool, true, false, not, List, [], ◌++◌, length, take, drop, Option, refl, sym, ap, subst, ◌∙◌, append_assoc, append-nil, take-append-drop, arith}
 use Rattle.std.proofs.lemmas.List.{nil_from_length, take_all, length-drop}
 use Rattle.std.specs.Io.KnownBytes.{Appends, Keeps}
 use Rattle.std.proofs.KnownBytes.{Appends-nil, Appends-trans, Appends-kept}
 use Rattle.p11_lines.specs.Writers.{Writes}
 use Rattle.p11_lines.specs.Written.{AppendsFront}
-use Rattle.p11_desk.specs.Deeds.{Fronts}
+use Rattle.p11_desk.specs.Deeds.{Fronts, WrittenUnless}
 
 pub Fronts_none : (a : Option (List ℕ)) (text : List ℕ) → Fronts a a text
 Fronts_none a text = record { front = []; rest = text; written = Appends-nil a; split = refl }
@@ -15,6 +15,11 @@ Fronts_kept a b kept = record { front = []; rest = []; written = Appends-kept a 
 
 pub Fronts_all : (a b : Option (List ℕ)) (text : List ℕ) → Appends a b text → Fronts a b text
 Fronts_all a b text all = record { front = text; rest = []; written = all; split = sym (append-nil text) }
+
+-- by whether all was taken
+pub unless : (is_whole : Bool) (a b : Option (List ℕ)) (text : List ℕ) → (is_whole ≡ true → Appends a b text) → (is_whole ≡ false → Fronts a b text) → WrittenUnless (not is_whole) a b text
+unless true a b text all front = all refl
+unless false a b text all front = front refl
 
 -- a front is written, and this is left
 pub record Left (a b : Option (List ℕ)) (text rest : List ℕ) : Type 0 where

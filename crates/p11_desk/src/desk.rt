@@ -8,7 +8,7 @@ use crate::deskwork::{Deskwork, Outcome};
 use crate::keyboard::{ESCAPE, Input, Keyboard, Press, Stop};
 use crate::line_text::{Entry, LineText, drop_return, put_text};
 use crate::script_lines::ScriptLines;
-use crate::station::{Attempt, Station, record_line, tell};
+use crate::station::{Marks, Station, tell};
 use crate::tapes::TapeNote;
 use arrayvec::ArrayVec;
 use p11_lines::StdWriter;
@@ -55,11 +55,8 @@ pub struct Desk<A: Allocator, S: Store, T: Write, L: Write, O: Opening, W: Write
     is_under_way: bool,
     /// The lines of a script that aren't begun.
     script: ScriptLines<A>,
-    is_screen_torn: bool,
-    is_journal_torn: bool,
+    marks: Marks,
     is_console_torn: bool,
-    /// What there is to say of the last line's tape.
-    note: TapeNote,
     of: PhantomData<O>,
 }
 
@@ -71,10 +68,10 @@ impl<A: Allocator, S: Store, T: Write, L: Write, O: Opening, W: Write, K: Keyboa
 
     ghost Value = { Tears };
 
-    ghost view = { λ d. record { screen = d.is_screen_torn; journal = d.is_journal_torn; console = d.is_console_torn } };
+    ghost view = { λ d. record { screen = d.marks.is_screen_torn; journal = d.marks.is_journal_torn; console = d.is_console_torn } };
 
     ghost invariant = { λ d. (deeds : List (Deed A))
-        × Dialogue deeds d.is_screen_torn d.is_journal_torn d.is_console_torn O.opening
+        × Dialogue deeds d.marks.is_screen_torn d.marks.is_journal_torn d.is_console_torn O.opening
         (scene d.station.panel (S.state d.station.store) (T.contents d.station.screen)
         (L.contents d.station.journal) (W.contents d.console.inner))
         × Given deeds d.waiting.items (pending d.is_under_way d.text.items d.script) O.keyboard d.input };
@@ -133,10 +130,12 @@ impl<
             text: ArrayVec::new(),
             is_under_way: false,
             script: ScriptLines::none(alloc),
-            is_screen_torn: false,
-            is_journal_torn: false,
+            marks: Marks {
+                is_screen_torn: false,
+                is_journal_torn: false,
+                note: TapeNote::Good,
+            },
             is_console_torn: false,
-            note: TapeNote::Good,
             of: PhantomData,
         }
     }
@@ -157,18 +156,16 @@ impl<
             text: _,
             is_under_way: _,
             script: _,
-            is_screen_torn,
-            is_journal_torn,
+            marks,
             is_console_torn,
-            note: _,
             of: _,
         } = self;
         let StdWriter { inner } = console;
         Parting {
             station,
             console: inner,
-            is_screen_torn,
-            is_journal_torn,
+            is_screen_torn: marks.is_screen_torn,
+            is_journal_torn: marks.is_journal_torn,
             is_console_torn: either(is_console_torn, ending.is_console_torn),
             has_read_fault: input.has_failed(),
             has_refused: ending.has_refused,
@@ -180,14 +177,14 @@ impl<
     fn is_torn(&self) -> bool
         ensures { result ≡ (self.now.screen || self.now.journal) }
     {
-        self.is_screen_torn || self.is_journal_torn
+        self.marks.is_screen_torn || self.marks.is_journal_torn
     }
 
     /// Whether one of the three writers failed.
     fn has_torn(&self) -> bool
         ensures { result ≡ (self.now.screen || (self.now.journal || self.now.console)) }
     {
-        self.is_screen_torn || self.is_journal_torn || self.is_console_torn
+        self.marks.is_screen_torn || self.marks.is_journal_torn || self.is_console_torn
     }
 
     /// Presses the first of the keys that wait, at most so many; whether one was pressed.
@@ -196,31 +193,18 @@ impl<
             return false;
         }
         let keys = front(&self.waiting, most);
-        if keys.is_empty() {
-            return false;
-        }
         let count = keys.len();
-        let Ok(keys) = Vec::from_slice(alloc, keys) else {
+        let Some(line) = keys_line(alloc, keys) else {
             return false;
         };
-        let text = Bytes::from_vec(keys);
-        let line = Line::Key { text };
-        let Some(text) = record_line(alloc, &line) else {
-            return false;
-        };
-        self.note = TapeNote::Good;
-        let Attempt {
-            answer,
-            is_shown,
-            is_kept,
-        } = self
-            .station
-            .attempt(alloc, line, text.as_slice(), &mut self.note);
-        self.is_screen_torn = !is_shown;
-        self.is_journal_torn = !is_kept;
-        let is_pressed = is_done(&answer);
-        drop_front(&mut self.waiting, count_if(is_pressed, count));
-        is_pressed
+        match self.station.attempt(alloc, line, &mut self.marks) {
+            Some(answer) => {
+                let is_pressed = is_done(answer);
+                drop_front(&mut self.waiting, count_if(is_pressed, count));
+                is_pressed
+            }
+            None => false,
+        }
     }
 
     /// Says a piece on the console: how many bytes of it were taken.
@@ -255,7 +239,7 @@ impl<
     }
 
     fn tape_note(&self) -> TapeNote {
-        self.note
+        self.marks.note
     }
 
     fn begin(&mut self, alloc: A, text: &[u8]) {
@@ -293,21 +277,13 @@ impl<
             Ok(line) => line,
             Err(fault) => return Outcome::Refused(fault),
         };
-        let Some(text) = record_line(alloc, &line) else {
-            return Outcome::Refused(Fault::NoMemory);
-        };
-        self.note = TapeNote::Good;
-        let Attempt {
-            answer,
-            is_shown,
-            is_kept,
-        } = self
-            .station
-            .attempt(alloc, line, text.as_slice(), &mut self.note);
-        self.is_screen_torn = !is_shown;
-        self.is_journal_torn = !is_kept;
-        self.is_console_torn = !tell(&mut self.console, &answer);
-        outcome_of(&answer)
+        match self.station.attempt(alloc, line, &mut self.marks) {
+            Some(answer) => {
+                self.is_console_torn = !tell(&mut self.console, &answer);
+                outcome_of(answer)
+            }
+            None => Outcome::Refused(Fault::NoMemory),
+        }
     }
 
     fn make_turns(&mut self, alloc: A, turns: u32, until_idle: bool) -> Option<Answer<A>> {
@@ -315,20 +291,10 @@ impl<
             return None;
         }
         let line = turns_line(turns, until_idle);
-        let Some(text) = record_line(alloc, &line) else {
-            return Some(Answer::Refused(Fault::NoMemory));
-        };
-        self.note = TapeNote::Good;
-        let Attempt {
-            answer,
-            is_shown,
-            is_kept,
-        } = self
-            .station
-            .attempt(alloc, line, text.as_slice(), &mut self.note);
-        self.is_screen_torn = !is_shown;
-        self.is_journal_torn = !is_kept;
-        Some(answer)
+        match self.station.attempt(alloc, line, &mut self.marks) {
+            Some(answer) => Some(answer),
+            None => Some(Answer::Refused(Fault::NoMemory)),
+        }
     }
 
     fn press(&mut self, alloc: A) -> bool {
@@ -582,9 +548,21 @@ fn turns_line<A: Allocator>(turns: u32, until_idle: bool) -> Line<A>
     }
 }
 
-fn outcome_of<A: Allocator>(answer: &Answer<A>) -> Outcome {
+/// The line of keys that are pressed, where there are any and memory for them.
+fn keys_line<A: Allocator>(alloc: A, keys: &[u8]) -> Option<Line<A>>
+    ensures { IfSome result (λ line. line ≡ Line.Key keys.now) }
+{
+    if keys.is_empty() {
+        return None;
+    }
+    let keys = Vec::from_slice(alloc, keys).ok()?;
+    let text = Bytes::from_vec(keys);
+    Some(Line::Key { text })
+}
+
+fn outcome_of<A: Allocator>(answer: Answer<A>) -> Outcome {
     match answer {
-        Answer::Refused(fault) => Outcome::Refused(*fault),
+        Answer::Refused(fault) => Outcome::Refused(fault),
         _ => Outcome::Answered,
     }
 }
@@ -596,8 +574,8 @@ fn fault_of<A: Allocator>(answer: &Answer<A>) -> Option<Fault> {
     }
 }
 
-fn is_done<A: Allocator>(answer: &Answer<A>) -> bool
-    ensures { result ≡ is_done answer.now }
+fn is_done<A: Allocator>(answer: Answer<A>) -> bool
+    ensures { result ≡ is_done answer }
 {
     match answer {
         Answer::Done => true,

@@ -1,9 +1,9 @@
 // What a dialogue is held over, and what one line does to it.
-ghost use Rattle.std.specs.Prelude.{◌≡◌, false, true, IfSome};
+ghost use Rattle.std.specs.Prelude.{◌≡◌, ℕ, List, Option, false, true, IfSome};
 ghost use Rattle.std.specs.Io.KnownBytes.{Appends};
 ghost use Rattle.p11_lines.specs.AnswerText.{text_of};
-ghost use Rattle.p11_panel.specs.Session.{with_store, Obeys};
-ghost use Rattle.p11_desk.specs.Deeds.{Fronts, ended, recorded, run_recorded, told_text, typed_in};
+ghost use Rattle.p11_desk.specs.Calls.{Attempts};
+ghost use Rattle.p11_desk.specs.Deeds.{Fronts, ended, recorded, run_recorded, scene, told_text, typed_in};
 
 use crate::obey::obey;
 use crate::tapes::TapeNote;
@@ -24,47 +24,46 @@ pub struct Station<A: Allocator, S, T, L> {
     pub journal: L,
 }
 
-/// What became of a line: its answer, and whether the screen and the record took all that is theirs.
-pub(crate) struct Attempt<A: Allocator> {
-    pub(crate) answer: Answer<A>,
-    pub(crate) is_shown: bool,
-    pub(crate) is_kept: bool,
+/// What lines have left: whether the writer of the screen or of the record has failed, and what there is to say of the
+/// last line's tape.
+#[derive(Clone, Copy)]
+pub(crate) struct Marks {
+    pub(crate) is_screen_torn: bool,
+    pub(crate) is_journal_torn: bool,
+    pub(crate) note: TapeNote,
 }
 
 impl<A: Allocator + Copy, S: Store, T: Write, L: Write> Station<A, S, T, L> {
-    /// Does just this line, shows what was typed, and records the line, whose text in a record is given.
+    /// Does just this line, shows what was typed, and records the line. `None`: there is no memory for its text in the
+    /// record, and nothing is done.
     pub(crate) fn attempt(
         &mut self,
         alloc: A,
         line: Line<A>,
-        text: &[u8],
-        note: &mut TapeNote,
-    ) -> Attempt<A>
-        requires { text.now ≡ ended line }
-        ensures does { Obeys line (with_store self.old.panel (S.state self.old.store)) result.answer
-            (with_store self.new.panel (S.state self.new.store)) }
-        ensures shown { result.is_shown ≡ true
-            → Appends (T.contents self.old.screen) (T.contents self.new.screen) (typed_in result.answer) }
-        ensures shown_front { result.is_shown ≡ false
-            → Fronts (T.contents self.old.screen) (T.contents self.new.screen) (typed_in result.answer) }
-        ensures kept { result.is_kept ≡ true
-            → Appends (L.contents self.old.journal) (L.contents self.new.journal) (recorded line result.answer) }
-        ensures kept_front { result.is_kept ≡ false
-            → Fronts (L.contents self.old.journal) (L.contents self.new.journal) (recorded line result.answer) }
+        marks: &mut Marks,
+    ) -> Option<Answer<A>>
+        ensures { (console : Option (List ℕ)) → Attempts line result
+            marks.old.is_screen_torn marks.old.is_journal_torn marks.new.is_screen_torn marks.new.is_journal_torn
+            (scene self.old.panel (S.state self.old.store) (T.contents self.old.screen) (L.contents self.old.journal) console)
+            (scene self.new.panel (S.state self.new.store) (T.contents self.new.screen) (L.contents self.new.journal) console) }
     {
-        let answer = obey(alloc, &mut self.panel, &mut self.store, line, note);
-        let is_shown = show(&mut self.screen, &answer);
-        let is_kept = keep(&mut self.journal, text, &answer);
-        Attempt {
-            answer,
-            is_shown,
-            is_kept,
-        }
+        let text = record_line(alloc, &line)?;
+        marks.note = TapeNote::Good;
+        let answer = obey(
+            alloc,
+            &mut self.panel,
+            &mut self.store,
+            line,
+            &mut marks.note,
+        );
+        marks.is_screen_torn = !show(&mut self.screen, &answer);
+        marks.is_journal_torn = !keep(&mut self.journal, text.as_slice(), &answer);
+        Some(answer)
     }
 }
 
 /// The text of a line in a record.
-pub(crate) fn record_line<A: Allocator>(alloc: A, line: &Line<A>) -> Option<Vec<u8, A>>
+fn record_line<A: Allocator>(alloc: A, line: &Line<A>) -> Option<Vec<u8, A>>
     ensures { IfSome result (λ text. text.items ≡ ended line.now) }
 {
     let mut text = line_of(alloc, line).ok()?;

@@ -5,4 +5,4 @@ use Rattle.p11_desk.proofs.desk.DeskDeskwork.end_run.Goals as goal
 
 pub invariant_of-self : goal.invariant_of-self
 invariant_of-self g c =
-    kept_by_writers c.self.inside.is_screen_torn c.self.inside.is_journal_torn c.self.inside.is_console_torn _ _ _ _ _ _ _ c.self.invariant refl refl c.flush.ensures.bytes (Keeps-refl _)
+    kept_by_writers c.self.inside.marks.is_screen_torn c.self.inside.marks.is_journal_torn c.self.inside.is_console_torn _ _ _ _ _ _ _ c.self.invariant refl refl c.flush.ensures.bytes (Keeps-refl _)
