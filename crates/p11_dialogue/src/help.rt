@@ -22,26 +22,26 @@ pub(crate) fn say_all<W: Write>(console: &mut Console<W>) {
 /// Says what there is about one word.
 pub(crate) fn say_one<W: Write>(console: &mut Console<W>, verb: Verb) {
     say_form(console, verb);
-    console.say("\n  ");
-    console.say(verb.deed());
+    say_field(console, "\n  ", verb.deed());
     let parts = verb.parts();
     for part in parts.wanted {
-        console.say("\n  with ");
-        console.say(part.meaning());
+        say_field(console, "\n  with ", part.meaning());
     }
     if let Some((part, _)) = parts.more {
-        console.say("\n  then, if you like, ");
-        console.say(part.meaning());
+        say_field(console, "\n  then, if you like, ", part.meaning());
     }
-    console.say("\n  example: ");
-    console.say(verb.example());
+    say_field(console, "\n  example: ", verb.example());
     if !verb.short().is_empty() {
-        console.say("\n  at a terminal also: ");
-        console.say(verb.short());
+        say_field(console, "\n  at a terminal also: ", verb.short());
     }
-    console.say("\n  answers: ");
-    console.say(verb.answer());
+    say_field(console, "\n  answers: ", verb.answer());
     console.say("\n");
+}
+
+/// Says a text, and what it names.
+fn say_field<W: Write>(console: &mut Console<W>, name: &str, text: &str) {
+    console.say(name);
+    console.say(text);
 }
 
 fn say_form<W: Write>(console: &mut Console<W>, verb: Verb) {

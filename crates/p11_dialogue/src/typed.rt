@@ -42,7 +42,10 @@ impl<A: Allocator + Copy, D: Deskwork<A>, W: Write, E: Host> Seat<A, D, W, E> {
     /// Does a typed line: as it stands, or by the lines that it means.
     fn do_typed(&mut self, place: &mut Place, typed: &[u8]) -> Next {
         match read_phrase(self.alloc, *place, typed) {
-            Err(refusal) => self.refuse_phrase(typed, refusal),
+            Err(refusal) => {
+                refuse_phrase::<A, D>(&mut self.console, typed, refusal);
+                Next::Line
+            }
             Ok(phrase) => {
                 *place = phrase.place;
                 match &phrase.lines {
@@ -74,23 +77,22 @@ impl<A: Allocator + Copy, D: Deskwork<A>, W: Write, E: Host> Seat<A, D, W, E> {
         }
         Next::Line
     }
+}
 
-    /// Says why a typed line means nothing.
-    fn refuse_phrase(&mut self, typed: &[u8], refusal: Refusal) -> Next {
-        let fault = if let Refusal::NoMemory = refusal {
-            Fault::NoMemory
-        } else {
-            Fault::BadLine
-        };
-        self.console.refuse::<A>(fault);
-        self.console.say("  ");
-        self.console.say(refusal.reason());
-        if let Refusal::Ambiguous = refusal {
-            say_meanings(&mut self.console, typed);
-        }
-        self.console.say(".\n");
-        Next::Line
+/// Says why a typed line means nothing.
+fn refuse_phrase<A: Allocator, W: Write>(console: &mut Console<W>, typed: &[u8], refusal: Refusal) {
+    let fault = if let Refusal::NoMemory = refusal {
+        Fault::NoMemory
+    } else {
+        Fault::BadLine
+    };
+    console.refuse::<A>(fault);
+    console.say("  ");
+    console.say(refusal.reason());
+    if let Refusal::Ambiguous = refusal {
+        say_meanings(console, typed);
     }
+    console.say(".\n");
 }
 
 /// Says a line of the language that a typed one means.
