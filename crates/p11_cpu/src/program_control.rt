@@ -1,6 +1,7 @@
 //! Branches, jumps, subroutines, SOB and MARK.
 ghost use Rattle.std.specs.Prelude.{◌≡◌, ℕ, ◌==◌, Ok};
 ghost use Rattle.p11_cpu.specs.Instructions.{execute_of};
+ghost use Rattle.p11_cpu.specs.Kept.Quiet.{IsQuietTo};
 ghost use Rattle.p11_cpu.specs.ProgramControl.{is_taken, branch_address};
 ghost use Rattle.p11_cpu.specs.Registers.{codes_of};
 
@@ -59,7 +60,8 @@ impl<A: Allocator> Hardware<A> {
     #[tactic(auto, unfolding(crate::specs::Instructions::execute_of, crate::specs::ProgramControl::branched))]
     #[inline(always)]
     pub fn branch_on(&mut self, condition: Condition, offset: Displacement)
-        ensures { (turn : ℕ) → execute_of (Op.Branch condition offset) turn self.old ≡ (self.new, Ok tt) }
+        ensures run { (turn : ℕ) → execute_of (Op.Branch condition offset) turn self.old ≡ (self.new, Ok tt) }
+        ensures quiet { (last : ℕ) → IsQuietTo last self.old → IsQuietTo last self.new }
     {
         if self.takes(condition) {
             let target = branch_target(offset, self.register(Register::Pc));
@@ -129,7 +131,8 @@ impl<A: Allocator> Hardware<A> {
     #[tactic(auto, unfolding(crate::specs::Instructions::execute_of, crate::specs::ProgramControl::counted_back))]
     #[inline(always)]
     pub fn sob(&mut self, register: Register, count: Count)
-        ensures { (turn : ℕ) → execute_of (Op.Sob register count) turn self.old ≡ (self.new, Ok tt) }
+        ensures run { (turn : ℕ) → execute_of (Op.Sob register count) turn self.old ≡ (self.new, Ok tt) }
+        ensures quiet { (last : ℕ) → IsQuietTo last self.old → IsQuietTo last self.new }
     {
         self.set_register(register, minus(self.register(register), 1));
         if !is_zero(self.register(register)) {
