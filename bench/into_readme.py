@@ -1,10 +1,5 @@
-#!/usr/bin/env python3
-"""bench/into_readme.py COLUMN [--times WORDS] NAME=NUMBER..: puts numbers into the table of scripts in bench/README.md, each into
-the line of its script, in the column with this title. --times says of which machine and of how many runs the times are.
-bench/count and bench/run call it; exit status 1: the table has no such column.
-"""
+"""The table of scripts in bench/README.md, into which bench/count and bench/run put numbers."""
 import re
-import sys
 from pathlib import Path
 
 README = Path(__file__).resolve().parent / "README.md"
@@ -28,6 +23,7 @@ def numbers(title):
 
 
 def put(title, new, times=""):
+    """Puts numbers into a column, each into the line of its script. `times` says of which machine and runs times are."""
     text = README.read_text(encoding="utf-8")
     at = column_of(text, title)
 
@@ -40,19 +36,3 @@ def put(title, new, times=""):
 
     text = ROW.sub(renewed, text)
     README.write_text(TIMES.sub(lambda _: f"Times: {times}", text) if times else text, encoding="utf-8")
-
-
-def main(words):
-    title, words, times = words[0], words[1:], ""
-    if words[:1] == ["--times"]:
-        times, words = words[1], words[2:]
-    try:
-        put(title, dict(word.split("=") for word in words), times)
-    except ValueError as error:
-        print(f"into_readme: {error}", file=sys.stderr)
-        return 1
-    return 0
-
-
-if __name__ == "__main__":
-    sys.exit(main(sys.argv[1:]))
