@@ -1,9 +1,10 @@
-"""The table of scripts in bench/README.md, into which bench/count and bench/run put numbers."""
+"""The tables of scripts and transfers in bench/README.md, into which the scripts of this folder put numbers."""
 import re
 from pathlib import Path
 
 README = Path(__file__).resolve().parent / "README.md"
-ROW = re.compile(r"^\| (?:`(\w+)`|Script) \|.*\|$", re.M)
+HEAD = re.compile(r"^\| (?:Script|Transfer) \|.*\|$", re.M)
+ROW = re.compile(r"^\| `(\w+)` \|.*\|$", re.M)
 TIMES = re.compile(r"^Times: .*$", re.M)
 
 
@@ -12,18 +13,20 @@ def cells(row):
 
 
 def column_of(text, title):
-    return [cell.strip() for cell in cells(ROW.search(text).group(0))].index(title)
+    """Where a table has a column: its place in the rows of that table."""
+    heads = [[cell.strip() for cell in cells(head)] for head in HEAD.findall(text)]
+    return next(head.index(title) for head in heads if title in head)
 
 
-def numbers(title):
-    """What the table has in a column, by script."""
+def numbers(title, names):
+    """What a table has in a column, by the names of its rows."""
     text = README.read_text(encoding="utf-8")
     at = column_of(text, title)
-    return {row[1]: cells(row[0])[at].strip() for row in ROW.finditer(text) if row[1]}
+    return {row[1]: cells(row[0])[at].strip() for row in ROW.finditer(text) if row[1] in names}
 
 
 def put(title, new, times=""):
-    """Puts numbers into a column, each into the line of its script. `times` says of which machine and runs times are."""
+    """Puts numbers into a column, each into the row of its name. `times` says of which machine and runs times are."""
     text = README.read_text(encoding="utf-8")
     at = column_of(text, title)
 

@@ -1,7 +1,8 @@
 -- The data bytes of a tape, one after another.
-use Rattle.std.proofs.Common.{◌≡◌, ℕ, ◌+◌, ◌<◌, List, [], ◌∷◌, ◌++◌, Bool, true, false, length, take, get_or, refl, inl, inr}
+use Rattle.std.proofs.Common.{◌≡◌, ℕ, zero, suc, ◌+◌, ◌-◌, ◌<◌, ◌≤◌, List, [], ◌∷◌, Bool, true, false, length, take, drop, get_or, slice_index_or, refl, ◌∙◌, arith, inl, inr}
+use Rattle.std.specs.Prelude.{◌&&◌}
 use Rattle.std.proofs.lemmas.Bool.{cases_Bool}
-use Rattle.std.proofs.lemmas.List.{take_more}
+use Rattle.std.proofs.lemmas.List.{length-drop, take_all}
 use Rattle.std.proofs.lemmas.List.Folds.{list_all_at, list_all_more}
 use Rattle.p11_cpu.specs.State.{State}
 use Rattle.p11_cpu.specs.Operator.{holds_byte_of, put_byte_of}
@@ -33,11 +34,32 @@ unfolding all_fit
 fits_kept [] s s' same = refl
 fits_kept (byte ∷ others) s s' same = rw (same byte.0, fits_kept others s s' same) refl
 
--- one more of them is written
-loaded_push : (placed : List (ℕ × ℕ)) (byte : ℕ × ℕ) (s : State) → loaded (placed ++ byte ∷ []) s ≡ put_byte_of byte.0 byte.1 (loaded placed s)
-unfolding loaded
-loaded_push [] byte s = refl
-loaded_push (b ∷ placed) byte s = loaded_push placed byte (put_byte_of b.0 b.1 s)
+-- what is behind the first n of some bytes
+behind : (n : ℕ) (placed : List (ℕ × ℕ)) → take (length placed - n) (drop n placed) ≡ drop n placed
+behind n placed = take_all (length placed - n) (drop n placed) (rw (length-drop n placed) omega arith)
 
-pub loaded_more : (placed : List (ℕ × ℕ)) (i : ℕ) (d : ℕ × ℕ) (s s' : State) → i < length placed → s' ≡ loaded (take i placed) s → put_byte_of (get_or placed i d).0 (get_or placed i d).1 s' ≡ loaded (take (i + 1) placed) s
-loaded_more placed i d s s' h e = rw (take_more placed i d h, loaded_push (take i placed) (get_or placed i d) s, e) refl
+-- it fits
+both : (a b : Bool) → a && b ≡ true → b ≡ true
+both true b h = h
+both false b h = cc h
+
+fits_drop : (n : ℕ) (placed : List (ℕ × ℕ)) (s : State) → all_fit placed s ≡ true → all_fit (drop n placed) s ≡ true
+unfolding all_fit
+fits_drop zero placed s fit = fit
+fits_drop (suc n) [] s fit = fit
+fits_drop (suc n) (byte ∷ others) s fit = fits_drop n others s (both (holds_byte_of byte.0 s) _ fit)
+
+pub fits_behind : (n : ℕ) (placed : List (ℕ × ℕ)) (s s' : State) → all_fit placed s ≡ true → ((a : ℕ) → holds_byte_of a s' ≡ holds_byte_of a s) → all_fit (take (length placed - n) (drop n placed)) s' ≡ true
+fits_behind n placed s s' fit same = rw (behind n placed) (fits_kept (drop n placed) s s' same ∙ fits_drop n placed s fit)
+
+-- one byte is written, or two of a word
+pub one_put : (placed : List (ℕ × ℕ)) (s s' : State) → 0 < length placed → s' ≡ put_byte_of (slice_index_or placed 0 (0, 0)).0 (slice_index_or placed 0 (0, 0)).1 s → loaded (take (length placed - 1) (drop 1 placed)) s' ≡ loaded placed s
+unfolding loaded
+one_put [] s s' some put = absurd (omega arith)
+one_put (byte ∷ others) s s' some put = rw (behind 1 (byte ∷ others), put) refl
+
+pub two_put : (placed : List (ℕ × ℕ)) (s s' : State) → 2 ≤ length placed → (slice_index_or placed 1 (0, 0)).0 ≡ (slice_index_or placed 0 (0, 0)).0 + 1 → s' ≡ put_byte_of ((slice_index_or placed 0 (0, 0)).0 + 1) (slice_index_or placed 1 (0, 0)).1 (put_byte_of (slice_index_or placed 0 (0, 0)).0 (slice_index_or placed 0 (0, 0)).1 s) → loaded (take (length placed - 2) (drop 2 placed)) s' ≡ loaded placed s
+unfolding loaded
+two_put [] s s' two next put = absurd (omega arith)
+two_put (byte ∷ []) s s' two next put = absurd (omega arith)
+two_put (low ∷ high ∷ others) s s' two next put = rw (behind 2 (low ∷ high ∷ others), put, next) refl

@@ -1,5 +1,5 @@
 // LOAD.
-ghost use Rattle.std.specs.Prelude.{◌≡◌, ℕ, true, Ok};
+ghost use Rattle.std.specs.Prelude.{◌≡◌, ℕ, ◌+◌, ◌%◌, ◌<◌, length, true, Ok};
 ghost use Rattle.p11_cpu.specs.Operator.{holds_byte_of, put_byte_of};
 ghost use Rattle.p11_panel.specs.Commands.{CommandStep};
 ghost use Rattle.p11_panel.specs.Tapes.{all_fit, loaded, tape_loaded};
@@ -9,6 +9,14 @@ use crate::panel::Panel;
 use p11_lines::{Answer, Fault};
 use p11_tape::{TapeFaultKind, read_tape};
 use std::alloc::Allocator;
+
+/// Whether two addresses are those of a word's low byte and high byte.
+fn is_word(low: u16, high: u16) -> bool
+    ensures even { result ≡ true → low % 2 ≡ 0 }
+    ensures next { result ≡ true → high ≡ low + 1 }
+{
+    low % 2 == 0 && high == low + 1
+}
 
 impl<A: Allocator + Copy> Panel<A> {
     /// Whether memory has a byte at an address.
@@ -40,14 +48,43 @@ impl<A: Allocator + Copy> Panel<A> {
         true
     }
 
+    /// Writes both bytes of a word to memory, the low one first.
+    fn put_bytes(&mut self, address: u16, low: u8, high: u8)
+        requires even { address % 2 ≡ 0 }
+        requires held { holds_byte_of address self.old ≡ true }
+        ensures state { self.new ≡ put_byte_of (address + 1) high (put_byte_of address low self.old) }
+        ensures holds { (a : ℕ) → holds_byte_of a self.new ≡ holds_byte_of a self.old }
+    {
+        self.machine.put_bytes(u32::from(address), low, high);
+    }
+
+    /// Writes the first of some bytes to memory, and the second with it where they are a word's; and gives the others.
+    fn put_first<'a>(&mut self, placed: &'a [(u16, u8)]) -> &'a [(u16, u8)]
+        requires some { 0 < length placed.now }
+        requires fit { all_fit placed.now self.old ≡ true }
+        ensures state { loaded result.now self.new ≡ loaded placed.now self.old }
+        ensures fit { all_fit result.now self.new ≡ true }
+        ensures fewer { length result.now < length placed.now }
+    {
+        if let [low, high, others @ ..] = placed {
+            if is_word(low.0, high.0) {
+                self.put_bytes(low.0, low.1, high.1);
+                return others;
+            }
+        }
+        self.put_byte(placed[0].0, placed[0].1);
+        &placed[1..]
+    }
+
     /// Writes bytes to memory, one after another.
     #[tactic(auto, unfolding(crate::specs::Tapes::loaded))]
     fn put_all(&mut self, placed: &[(u16, u8)])
         requires { all_fit placed.now self.old ≡ true }
         ensures { self.new ≡ loaded placed.now self.old }
     {
-        for byte in placed {
-            self.put_byte(byte.0, byte.1);
+        let mut rest = placed;
+        while !rest.is_empty() {
+            rest = self.put_first(rest);
         }
     }
 

@@ -56,7 +56,7 @@ fn take(bus: &mut Unibus, turn: u64, step: Step) -> Result<bool, AllocError>
         }
         Step::Act => act(bus, turn)?,
         Step::Writes(addresses) => bus.written_since().as_slice() == addresses,
-        Step::WritesNone => bus.take_written().is_none(),
+        Step::WritesNone => bus.written().is_empty(),
         Step::IsIdle => bus.is_idle_in(turn),
         Step::IsNextDue(due) => bus.next_due(turn) == due,
         Step::Reads(address, word) => bus.read(turn, address) == Some(word),
