@@ -14,6 +14,7 @@ use std::alloc::Allocator;
 fn is_word(low: u16, high: u16) -> bool
     ensures even { result ≡ true → low % 2 ≡ 0 }
     ensures next { result ≡ true → high ≡ low + 1 }
+    ensures all { low % 2 ≡ 0 → high ≡ low + 1 → result ≡ true }
 {
     low % 2 == 0 && high == low + 1
 }
