@@ -1,8 +1,8 @@
 // Sessions that nothing disturbs.
 ghost use Rattle.std.specs.Prelude.{◌≡◌, ◌<◌};
 
-use crate::bench::Bench;
-use crate::case::Setting;
+use crate::refusals::bench::Bench;
+use crate::refusals::case::Setting;
 use p11_panel::Panel;
 use p11_test_data::{Shelf, Wrong, bad_line, same};
 use std::alloc::{AllocError, Global};

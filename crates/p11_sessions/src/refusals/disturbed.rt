@@ -1,9 +1,9 @@
 //! A session in which each growth is refused once, compared line by line with the session that has memory.
-use crate::ballast::{Ballast, MOST_TRIES};
-use crate::bench::Bench;
-use crate::calm::{Played, Step};
-use crate::case::Setting;
-use crate::stop::{Parts, Stop, part_of, rest_of};
+use crate::refusals::ballast::{Ballast, MOST_TRIES};
+use crate::refusals::bench::Bench;
+use crate::refusals::calm::{Played, Step};
+use crate::refusals::case::Setting;
+use crate::refusals::stop::{Parts, Stop, part_of, rest_of};
 use p11_test_data::{Wrong, bad_line, same};
 use std::alloc::{AllocError, Allocator, Global};
 use std::sync::ledger::Ledger;

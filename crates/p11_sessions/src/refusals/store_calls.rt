@@ -1,6 +1,6 @@
 //! The store refuses each of its calls in turn: that line alone is refused.
-use crate::calm::{Played, play_calmly, same_session};
-use crate::case::Setting;
+use crate::refusals::calm::{Played, play_calmly, same_session};
+use crate::refusals::case::Setting;
 use p11_test_data::{Wrong, bad_line, same};
 use std::alloc::{AllocError, Global};
 

@@ -1,6 +1,6 @@
 // How a script is cut into lines, and how it ends.
-use crate::case::{Case, Setting, sizes};
-use crate::streams::play;
+use crate::refusals::case::{Case, Setting, sizes};
+use crate::refusals::streams::play;
 use p11_panel::Config;
 use p11_test_data::{EndlessReader, PieceReader, PieceWriter, Wrong, same};
 use std::alloc::Global;

@@ -1,10 +1,10 @@
 // A run of 200 turns that writes two sectors, where there is memory for none of them, for the first, and for both.
 ghost use Rattle.std.specs.Prelude.{◌≡◌, ◌<◌};
 
-use crate::bench::Bench;
-use crate::calm::play_calmly;
-use crate::case::{Case, Setting, sizes};
-use crate::stop::{Stop, rest_of};
+use crate::refusals::bench::Bench;
+use crate::refusals::calm::play_calmly;
+use crate::refusals::case::{Case, Setting, sizes};
+use crate::refusals::stop::{Stop, rest_of};
 use bumpalo::Bump;
 use p11_panel::Panel;
 use p11_test_data::{Shelf, StoredFile, Wrong, bad_line, same};

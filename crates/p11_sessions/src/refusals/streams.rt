@@ -1,9 +1,9 @@
 // Sessions whose reader or writer fails, at each byte.
 ghost use Rattle.std.specs.Prelude.{◌≡◌, ◌<◌};
 
-use crate::bench::Bench;
-use crate::calm::{Played, new_panel};
-use crate::case::Setting;
+use crate::refusals::bench::Bench;
+use crate::refusals::calm::{Played, new_panel};
+use crate::refusals::case::Setting;
 use p11_panel::{SessionFault, StdReader, StdWriter, session};
 use p11_test_data::{PieceReader, PieceWriter, Shelf, Wrong, bad_line, same, text_of};
 use std::alloc::{AllocError, Global};

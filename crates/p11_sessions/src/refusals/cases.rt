@@ -1,9 +1,9 @@
 //! Reads a file of cases line by line, tries each, and keeps what they showed.
-use crate::calm::play_calmly;
-use crate::case::{Case, NOWHERE, Places, Setting, Trial, sizes};
-use crate::full_heap::play_on_full_heap;
-use crate::store_calls::refuse_calls;
-use crate::streams::break_streams;
+use crate::refusals::calm::play_calmly;
+use crate::refusals::case::{Case, NOWHERE, Places, Setting, Trial, sizes};
+use crate::refusals::full_heap::play_on_full_heap;
+use crate::refusals::store_calls::refuse_calls;
+use crate::refusals::streams::break_streams;
 use p11_panel::Config;
 use p11_test_data::{StoredFile, Wrong, bad_line, number};
 use std::alloc::Global;

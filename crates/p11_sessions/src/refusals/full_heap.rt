@@ -1,11 +1,11 @@
 // Sessions on a heap that is full, of which a little comes back each time that a growth was refused.
 ghost use Rattle.std.specs.Prelude.{◌≡◌, ◌<◌};
 
-use crate::ballast::{Ballast, MOST_TRIES};
-use crate::bench::Bench;
-use crate::calm::{Played, play_calmly, same_session};
-use crate::case::Setting;
-use crate::disturbed::Disturbed;
+use crate::refusals::ballast::{Ballast, MOST_TRIES};
+use crate::refusals::bench::Bench;
+use crate::refusals::calm::{Played, play_calmly, same_session};
+use crate::refusals::case::Setting;
+use crate::refusals::disturbed::Disturbed;
 use linked_list_allocator::LocalHeap;
 use p11_panel::Panel;
 use p11_test_data::{Shelf, Wrong, bad_line, same};

@@ -1,6 +1,6 @@
 // Sizes, and commands that no line gives.
-use crate::ballast::{Ballast, MOST_TRIES};
-use crate::case::{Places, sizes};
+use crate::refusals::ballast::{Ballast, MOST_TRIES};
+use crate::refusals::case::{Places, sizes};
 use linked_list_allocator::LocalHeap;
 use p11_lines::{StdWriter, put_answer};
 use p11_panel::{Answer, Command, Config, Fault, Panel, Words, play};

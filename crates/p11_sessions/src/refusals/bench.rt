@@ -1,5 +1,5 @@
 //! A machine with its store, asked by scripts, and all that shows of both.
-use crate::case::Setting;
+use crate::refusals::case::Setting;
 use p11_panel::Panel;
 use p11_test_data::{Shelf, Wrong, ask};
 use std::alloc::{Allocator, Global};
