@@ -3,7 +3,7 @@ ghost use Rattle.std.specs.Prelude.{◌≡◌, ◌<◌};
 
 use crate::escapes::line_of_keys;
 use crate::keys::{Keys, MemoryHost};
-use crate::records::{files_shown, new_panel, play_record, shown};
+use crate::records::{new_panel, play_record, state};
 use crate::talk::Talk;
 use linked_list_allocator::LocalHeap;
 use p11_dialogue::{Parting, Person, Record, Station, converse};
@@ -184,8 +184,7 @@ fn hold_with<L: Ledger, A: Allocator + Copy>(
     let calls = store.calls();
     let (is_kept, mut journal) = journal.finish();
     let record = text_of(alloc, journal.take(alloc))?;
-    let mut state = shown(alloc, heap, &mut panel, &mut store)?;
-    state.push_str(files_shown(alloc, record.as_str(), &store)?.as_str())?;
+    let state = state(alloc, heap, (&mut panel, &mut store), record.as_str())?;
     Ok(Came {
         screen: screen.take(alloc),
         said: said.take(alloc),

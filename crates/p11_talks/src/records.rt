@@ -3,7 +3,7 @@ ghost use Rattle.std.specs.Prelude.{◌≡◌, ◌<◌};
 
 use crate::escapes::bytes_of;
 use crate::holding::Came;
-use p11_panel::{Config, Panel, Store};
+use p11_panel::{Config, Panel};
 use p11_test_data::{Shelf, StoredFile, Wrong, ask, bad_line};
 use std::alloc::{Allocator, Global};
 use std::marker::Brand;
@@ -35,39 +35,32 @@ pub(crate) fn new_panel<A: Allocator + Copy>(alloc: Global, heap: A) -> Result<P
     }
 }
 
-/// What shows of a machine.
-pub(crate) fn shown<A: Allocator + Copy, S: Store>(
+/// What shows of a machine, and of the files that a record's lines saved.
+pub(crate) fn state<L: Ledger, A: Allocator + Copy>(
     alloc: Global,
     heap: A,
-    panel: &mut Panel<A>,
-    store: &mut S,
-) -> Result<String, Wrong> {
-    ask(alloc, heap, panel, store, "regs\ndevice\n")
-}
-
-/// What shows of the files that a record's lines saved: of each its name, and a sum in which each byte has its place.
-pub(crate) fn files_shown<L: Ledger>(
-    alloc: Global,
+    (panel, shelf): (&mut Panel<A>, &mut Shelf<L>),
     record: &str,
-    shelf: &Shelf<L>,
 ) -> Result<String, Wrong> {
-    let mut text = String::new(alloc);
+    let mut text = ask(alloc, heap, panel, &mut *shelf, "regs\ndevice\n")?;
     for line in record.lines() {
-        let Some((_, name)) = line
+        if let Some((_, name)) = line
             .strip_prefix("save ")
             .and_then(|rest| rest.split_once(" "))
-        else {
-            continue;
-        };
-        let bytes = shelf.bytes_under(name.as_bytes()).unwrap_or(&[]);
-        let mut sum = 0u64;
-        for byte in bytes {
-            sum = sum.wrapping_mul(31).wrapping_add(u64::from(*byte));
+        {
+            let bytes = shelf.bytes_under(name.as_bytes()).unwrap_or(&[]);
+            writeln!(text, "{name} {} {}", bytes.len(), sum(bytes))?;
         }
-        let len = bytes.len();
-        text.push_str(format!(in alloc; "{name} {len} {sum}\n")?.as_str())?;
     }
     Ok(text)
+}
+
+/// A sum in which each byte has its place.
+fn sum(bytes: &[u8]) -> u64 {
+    bytes.iter().fold(
+        0,
+        |sum, byte| sum.wrapping_mul(31).wrapping_add(u64::from(*byte)),
+    )
 }
 
 /// Plays the record of a dialogue on a new machine.
@@ -93,16 +86,20 @@ fn play_counted<L: Ledger>(
     let mut shelf = Shelf::<L>::new(alloc, blank, files, 0)?;
     let mut panel = new_panel(alloc, alloc)?;
     let answers = ask(alloc, alloc, &mut panel, &mut shelf, came.record.as_str())?;
+    let state = state(alloc, alloc, (&mut panel, &mut shelf), came.record.as_str())?;
+    let typed = typed(alloc, answers.as_str())?;
+    Ok(Again { typed, state })
+}
+
+/// What the machine typed, from the answers to a record; none of them refuses a line.
+fn typed(alloc: Global, answers: &str) -> Result<Vec<u8>, Wrong> {
     let mut typed = Vec::new(alloc);
-    for line in answers.as_str().lines() {
+    for line in answers.lines() {
         if let Some(text) = line.strip_prefix("TTY ") {
-            let bytes = bytes_of(alloc, text)?;
-            typed.extend_from_slice(bytes.as_slice())?;
+            typed.extend_from_slice(bytes_of(alloc, text)?.as_slice())?;
         } else if line.starts_with("? ") {
             return Err(bad_line(alloc, line));
         }
     }
-    let mut state = shown(alloc, alloc, &mut panel, &mut shelf)?;
-    state.push_str(files_shown(alloc, came.record.as_str(), &shelf)?.as_str())?;
-    Ok(Again { typed, state })
+    Ok(typed)
 }

@@ -39,25 +39,105 @@ const SLICE: u32 = 1_000_000;
 
 const MOST_TURNS: u32 = 100_000_000;
 
-fn number<'a>() -> ValueParser<'a> {
-    ValueParser::unsigned(0, 4_294_967_295)
+/// What an option takes.
+enum Value {
+    Nothing,
+    /// A number, which the help shows by this letter.
+    Number(&'static str),
+    /// The name of a file.
+    File,
 }
 
-/// An option with a number.
-fn option<'a>(alloc: Global, name: &'a str, value: &'a str, help: &'a str) -> Arg<'a> {
-    Arg::new(alloc, name)
-        .long(name)
-        .value_name(value)
-        .value_parser(number())
-        .help(help)
+/// An argument that an option asks for, or that may not stand beside it.
+enum Beside {
+    Any,
+    Needs(&'static str),
+    Never(&'static str),
 }
 
-/// An option without a value.
-fn flag<'a>(alloc: Global, name: &'a str, help: &'a str) -> Arg<'a> {
-    Arg::new(alloc, name)
-        .long(name)
-        .action(ArgAction::SetTrue)
-        .help(help)
+/// An option of the command line.
+struct Choice {
+    name: &'static str,
+    value: Value,
+    beside: Beside,
+    help: &'static str,
+}
+
+/// The options, in the order in which the help shows them.
+static CHOICES: [Choice; 9] = [
+    Choice {
+        name: "memory",
+        value: Value::Number("K"),
+        beside: Beside::Any,
+        help: "Thousands of words of memory: 4 to 124 in steps of 4 [default: 28]",
+    },
+    Choice {
+        name: "lines",
+        value: Value::Number("N"),
+        beside: Beside::Any,
+        help: "Decoded words to keep: 0 to 4096 [default: 1024]",
+    },
+    Choice {
+        name: "slice",
+        value: Value::Number("S"),
+        beside: Beside::Any,
+        help: "Turns between two looks at the keyboard [default: 1000000]",
+    },
+    Choice {
+        name: "record",
+        value: Value::File,
+        beside: Beside::Any,
+        help: "A new file for the lines of what is done, which p11 plays again",
+    },
+    Choice {
+        name: "history",
+        value: Value::File,
+        beside: Beside::Any,
+        help: "A file that keeps the lines which are typed, for later dialogues",
+    },
+    Choice {
+        name: "no-save",
+        value: Value::Nothing,
+        beside: Beside::Any,
+        help: "Answer each save, and write nothing; the end says what it would have been",
+    },
+    Choice {
+        name: "batch",
+        value: Value::Nothing,
+        beside: Beside::Needs("SCRIPT"),
+        help: "Do the script alone, answer as p11, and say on standard error what is refused",
+    },
+    Choice {
+        name: "strict",
+        value: Value::Nothing,
+        beside: Beside::Needs("batch"),
+        help: "With --batch: end at the first refused line, with status 1",
+    },
+    Choice {
+        name: "talk",
+        value: Value::Nothing,
+        beside: Beside::Never("batch"),
+        help: "Sit at the machine's terminal at once",
+    },
+];
+
+impl Choice {
+    /// The option, as clap takes it.
+    fn arg<'a>(&self, alloc: Global) -> Result<Arg<'a>, AllocError> {
+        let arg = Arg::new(alloc, self.name).long(self.name).help(self.help);
+        let arg = match self.value {
+            Value::Nothing => arg.action(ArgAction::SetTrue),
+            Value::Number(letter) => arg
+                .value_name(letter)
+                .value_parser(ValueParser::unsigned(0, 4_294_967_295)),
+            Value::File => arg.value_name("FILE"),
+        };
+        match self.beside {
+            Beside::Any => Ok(arg),
+            Beside::Needs(name) => arg.requires_arg(name),
+            Beside::Never(name) => arg.conflicts_with(name),
+        }
+    }
 }
 
 /// The program, without its arguments.
@@ -69,34 +149,11 @@ fn program<'a>(alloc: Global) -> Command<'a> {
 
 /// The command line that the program has.
 fn command<'a>(alloc: Global) -> Result<Command<'a>, AllocError> {
-    let memory = "Thousands of words of memory: 4 to 124 in steps of 4 [default: 28]";
-    let lines = "Decoded words to keep: 0 to 4096 [default: 1024]";
-    let save = "Answer each save, and write nothing; the end says what it would have been";
-    let batch = "Do the script alone, answer as p11, and say on standard error what is refused";
-    let strict = "With --batch: end at the first refused line, with status 1";
-    let talk = "Sit at the machine's terminal at once";
-    let slice = "Turns between two looks at the keyboard [default: 1000000]";
-    program(alloc)
-        .arg(option(alloc, "memory", "K", memory))?
-        .arg(option(alloc, "lines", "N", lines))?
-        .arg(option(alloc, "slice", "S", slice))?
-        .arg(
-            Arg::new(alloc, "record")
-                .long("record")
-                .value_name("FILE")
-                .help("A new file for the lines of what is done, which p11 plays again"),
-        )?
-        .arg(
-            Arg::new(alloc, "history")
-                .long("history")
-                .value_name("FILE")
-                .help("A file that keeps the lines which are typed, for later dialogues"),
-        )?
-        .arg(flag(alloc, "no-save", save))?
-        .arg(flag(alloc, "batch", batch).requires_arg("SCRIPT")?)?
-        .arg(flag(alloc, "strict", strict).requires_arg("batch")?)?
-        .arg(flag(alloc, "talk", talk).conflicts_with("batch")?)?
-        .arg(Arg::new(alloc, "SCRIPT").help("Lines for the console that are done first"))
+    let mut command = program(alloc);
+    for choice in &CHOICES {
+        command = command.arg(choice.arg(alloc)?)?;
+    }
+    command.arg(Arg::new(alloc, "SCRIPT").help("Lines for the console that are done first"))
 }
 
 /// What clap answers, as the cause of an ending.
