@@ -24,7 +24,7 @@ FILES = sorted(glob.glob(os.path.join(os.path.dirname(os.path.realpath(__file__)
 
 
 class BadLine(Exception):
-    """A line that none of the rules above reads."""
+    """A file, its line, and why none of the rules above reads it."""
 
 
 @dataclass
@@ -59,9 +59,19 @@ class Session:
         return Session(self.at, self.name, self.kwords, self.files, self.left, steps)
 
 
+def number(text):
+    if not text.isdecimal():
+        raise BadLine(f"no number: {text}")
+    return int(text)
+
+
 def file_of(text):
-    name, times, *data = text.split()
-    return name, bytes.fromhex("".join(data)) * int(times)
+    name, _, rest = text.partition(" ")
+    times, _, data = rest.partition(" ")
+    try:
+        return name, bytes.fromhex(data) * number(times)
+    except ValueError:
+        raise BadLine(f"no hexadecimal bytes: {data}") from None
 
 
 def steps_of(lines):
@@ -72,7 +82,7 @@ def steps_of(lines):
         elif steps:
             steps[-1].answer.append(line)
         else:
-            raise BadLine("an answer above the first line of a script")
+            raise BadLine(f"an answer above the first line of a script: {line}")
     for step in steps:
         step.answer = step.answer or ["OK"]
     return steps
@@ -132,7 +142,7 @@ class Reader:
             name, data = file_of(line[2:])
             self.left[name] = self.left.get(name, b"") + data
         elif line.startswith("! "):
-            self.kwords = int(line[2:])
+            self.kwords = number(line[2:])
         else:
             self.own.append(line)
 
@@ -152,13 +162,13 @@ class Reader:
 def sessions(path):
     """The sessions of a file, one after another."""
     reader = Reader()
-    with open(path, encoding="ascii", newline="\n") as text:
+    with open(path, encoding="ascii", errors="backslashreplace", newline="\n") as text:
         lines = text.read().split("\n")
     try:
         for line in lines:
             yield from reader.take(line)
         yield from reader.finish()
-    except (BadLine, ValueError) as wrong:
+    except BadLine as wrong:
         raise BadLine(f"{path}, line {reader.at}: {wrong}") from None
 
 
