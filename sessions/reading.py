@@ -91,11 +91,11 @@ def steps_of(lines):
 def filled(line, cells):
     """A line with these cells in the place of `$a`, `$b` and so on."""
     parts = re.split(r"\$(.?)", line)
-    for number in range(1, len(parts), 2):
-        letter = parts[number]
+    for at in range(1, len(parts), 2):
+        letter = parts[at]
         if not letter or not 0 <= ord(letter) - ord("a") < len(cells):
             raise BadLine(f"the row has no cell ${letter}")
-        parts[number] = cells[ord(letter) - ord("a")]
+        parts[at] = cells[ord(letter) - ord("a")]
     return "".join(parts)
 
 
@@ -146,17 +146,19 @@ class Reader:
         else:
             self.own.append(line)
 
+    def session(self, at, name, lines):
+        return Session(at, name, self.kwords, self.files, dict(self.left), steps_of(lines))
+
     def row(self, row):
         self.has_rows = True
         cells = row.split()
         lines = [line for at in self.outline for line in (self.own if at == "." else [at])]
-        steps = steps_of(filled(line, cells) for line in lines)
-        return Session(self.at, f"{self.name}: {row}" if self.name else row, self.kwords, self.files, self.left, steps)
+        return self.session(self.at, f"{self.name}: {row}" if self.name else row, [filled(line, cells) for line in lines])
 
     def finish(self):
         """The last example, if it is no outline's."""
         if self.own and not self.has_rows:
-            yield Session(self.begun, self.name, self.kwords, self.files, self.left, steps_of(self.own))
+            yield self.session(self.begun, self.name, self.own)
 
 
 def sessions(path):
