@@ -1,5 +1,4 @@
 """How long a command takes, and on which machine."""
-import datetime
 import os
 import re
 import subprocess
@@ -16,6 +15,6 @@ def seconds(words, out, folder=None):
 
 
 def host():
-    """The processor's name, how many of its cores there are, and the date."""
+    """The processor's name, and how many of its cores there are."""
     model = re.search(r"^model name[^:]*: *(.*)$", Path("/proc/cpuinfo").read_text(), re.M)[1]
-    return f"{model}, {os.cpu_count()} cores, {datetime.date.today()}"
+    return f"{model}, {os.cpu_count()} cores"
