@@ -4,7 +4,7 @@ from pathlib import Path
 
 README = Path(__file__).resolve().parent / "README.md"
 HEAD = re.compile(r"^\| (?:Script|Transfer) \|.*\|$", re.M)
-ROW = re.compile(r"^\| `(\w+)` \|.*\|$", re.M)
+ROW = re.compile(r"^\| `([\w-]+)` \|.*\|$", re.M)
 # Which processor the times of a column are of, and of which day.
 TIMES = re.compile(r"^- (?P<column>[A-Z]): (?P<processor>.*), (?P<day>\S+)$", re.M)
 

@@ -1,8 +1,22 @@
-"""How long a command takes, and on which machine."""
+"""The scripts that are timed and counted, how long a command takes, and on which machine."""
+import gzip
 import os
 import re
 import subprocess
 from pathlib import Path
+
+PROGRAMS = Path(__file__).resolve().parent.parent / "soak/programs"
+# The scripts with mapping off; the first eight have one with mapping on besides.
+SCRIPTS = """branch registers memory eis calls sort sieve interpreter traps services pages far_calls rewrites misses
+    polling ticks waiting lisp-program queens-program pi-program matrix-program""".split()
+
+
+def tapes(folder):
+    """Puts the tapes that the scripts load into a folder."""
+    for name in SCRIPTS:
+        if name.endswith("-program"):
+            tape = f"{name.removesuffix('-program')}.tape"
+            (folder / tape).write_bytes(gzip.decompress((PROGRAMS / f"{tape}.gz").read_bytes()))
 
 
 def seconds(words, out, folder=None):

@@ -24,8 +24,10 @@ fn is_kernel(mode: Mode) -> bool
 /// mode has among them; and the other stack pointer.
 #[derive(Drop)]
 pub(crate) struct Bank {
-    words: [u16; 8],
+    /// In front of the words, so that PC has no 32 bits in common with the stack pointer before it, for whose stores its
+    /// loads would wait.
     other_sp: u16,
+    words: [u16; 8],
     /// Whether the stack pointer among the words is kernel mode's.
     of_kernel: bool,
 }

@@ -2,7 +2,7 @@
 ghost use Rattle.std.specs.Prelude.{◌≡◌, ℕ, ◌==◌, Ok};
 ghost use Rattle.p11_cpu.specs.Instructions.{execute_of};
 ghost use Rattle.p11_cpu.specs.Kept.Quiet.{IsQuietTo};
-ghost use Rattle.p11_cpu.specs.ProgramControl.{is_taken, branch_address};
+ghost use Rattle.p11_cpu.specs.ProgramControl.{is_taken, branch_address, linked};
 ghost use Rattle.p11_cpu.specs.Registers.{codes_of};
 
 use crate::hardware::Hardware;
@@ -80,7 +80,19 @@ impl<A: Allocator> Hardware<A> {
         Ok(())
     }
 
-    /// JSR.
+    /// What JSR does once it has the subroutine's address, on either path.
+    #[inline(always)]
+    fn link(&mut self, turn: TurnNumber, register: Register, target: u16) -> Result<(), Trap>
+        ensures { linked register target turn self.old ≡ (self.new, result) }
+    {
+        self.push_register(turn, register)?;
+        let pc = self.register(Register::Pc);
+        self.set_register(register, pc);
+        self.set_register(Register::Pc, target);
+        Ok(())
+    }
+
+    /// JSR. PC as the link register has a path of its own, as in `step_up`.
     #[tactic(auto, unfolding(crate::specs::Instructions::execute_of))]
     #[inline(always)]
     pub fn jsr(
@@ -92,24 +104,34 @@ impl<A: Allocator> Hardware<A> {
         ensures { execute_of (Op.Jsr register operand) turn self.old ≡ (self.new, result) }
     {
         let target = self.find_target(turn, operand)?;
-        self.push_register(turn, register)?;
-        let pc = self.register(Register::Pc);
-        self.set_register(register, pc);
-        self.set_register(Register::Pc, target);
-        Ok(())
+        match register {
+            Register::Pc => self.link(turn, Register::Pc, target),
+            _ => self.link(turn, register, target),
+        }
     }
 
-    /// RTS.
+    /// RTS, on either path.
     #[tactic(auto, unfolding(crate::specs::Instructions::execute_of))]
     #[inline(always)]
-    pub fn rts(&mut self, turn: TurnNumber, register: Register) -> Result<(), Trap>
+    fn rts_by(&mut self, turn: TurnNumber, register: Register) -> Result<(), Trap>
         ensures { execute_of (Op.Rts register) turn self.old ≡ (self.new, result) }
     {
         let link = self.register(register);
         self.set_register(Register::Pc, link);
         let saved = self.pop(turn)?;
-        self.set_pc_or_register(register, saved);
+        self.set_register(register, saved);
         Ok(())
+    }
+
+    /// RTS. PC as the link register has a path of its own, as in `step_up`.
+    #[inline(always)]
+    pub fn rts(&mut self, turn: TurnNumber, register: Register) -> Result<(), Trap>
+        ensures { execute_of (Op.Rts register) turn self.old ≡ (self.new, result) }
+    {
+        match register {
+            Register::Pc => self.rts_by(turn, Register::Pc),
+            _ => self.rts_by(turn, register),
+        }
     }
 
     /// MARK, out of line.

@@ -193,3 +193,21 @@ run_steps {A} until_idle n k s reason last answer s' free run ends =
           (subst (λ (x : State). needs_memory x ≡ true) run.state memory.1)
           (ap (λ r. stopped {A = A} r k (after_turns k s)) (sym memory.0) ∙ here)
     ]
+
+-- A RUN MAKES NO MORE TURNS THAN IT IS ASKED FOR
+
+stops_at_last : (idles : State → Bool) (n : ℕ) (s : State) → stop_of idles n n s ≡ None → ⊥
+unfolding stop_of
+stops_at_last idles n s e =
+    let same : (n == n) ≡ true = grind arith in
+    elim (cases_Bool (last_halted n s)) [
+      | inl now ↦ grind (arith, e, same, now)
+      | inr not ↦ grind (arith, e, same, not)
+    ]
+
+pub run_within : (idles : State → Bool) (n k : ℕ) (s s' : State) (reason : StopReason) → IsRun idles n s k reason s' → k ≤ n
+run_within idles n k s s' reason run =
+    elim (cases_lt n k) [
+      | inl more ↦ absurd (stops_at_last idles n s (run.goes_on n more))
+      | inr most ↦ omega (arith, most)
+    ]

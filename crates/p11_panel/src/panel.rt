@@ -1,7 +1,7 @@
 //! The machine under an operator: one command done and answered.
 ghost use Rattle.std.specs.Prelude.{◌≡◌, ◌<◌, ◌≤◌, ◌+◌, ◌^◌, true, None, IfOk};
 ghost use Rattle.p11_cpu.specs.Operator.{new_machine};
-ghost use Rattle.p11_panel.specs.Calls.Runs.{run_command};
+ghost use Rattle.p11_panel.specs.Calls.Runs.{run_command, StopsWithin, RunsWithin};
 ghost use Rattle.p11_panel.specs.Commands.{CommandStep};
 ghost use Rattle.p11_panel.specs.Confinement.{ConfinesRun, ConfinesStop};
 ghost use Rattle.p11_panel.specs.Ranges.{all_answer, examine_fault};
@@ -54,10 +54,12 @@ impl<A: Allocator + Copy> Panel<A> {
     /// `Examine` of several words may find no memory, and answer `NoMemory` then; no other command does. A `Step` or a
     /// `Continue` that finds no memory for a turn stops before it, and answers the turns that it has made. One of a user
     /// program that memory management keeps off the I/O page, in which no service begins, leaves all memory that it
-    /// doesn't reach, but for what disk reads store.
+    /// doesn't reach, but for what disk reads store. Both answer `Stop`, with no more turns than were asked for, or
+    /// `Refused`.
     pub fn act(&mut self, alloc: A, command: &Command<A>) -> Answer<A>
         ensures acts { CommandStep self.old command.now result self.new }
         ensures confined { ConfinesRun self.old command.now result self.new }
+        ensures within { RunsWithin command.now result }
     {
         match command {
             Command::Mount {
@@ -196,6 +198,7 @@ impl<A: Allocator + Copy> Panel<A> {
     fn step(&mut self, turns: u32) -> Answer<A>
         ensures acts { CommandStep self.old (Command.Step turns) result self.new }
         ensures confined { ConfinesRun self.old (Command.Step turns) result self.new }
+        ensures within { StopsWithin turns result }
     {
         if let Some(fault) = self.step_refusal(turns) {
             return Answer::Refused(fault);
@@ -207,6 +210,7 @@ impl<A: Allocator + Copy> Panel<A> {
     fn continue_run(&mut self, turns: u32) -> Answer<A>
         ensures acts { CommandStep self.old (Command.Continue turns) result self.new }
         ensures confined { ConfinesRun self.old (Command.Continue turns) result self.new }
+        ensures within { StopsWithin turns result }
     {
         if let Some(fault) = self.step_refusal(turns) {
             return Answer::Refused(fault);
@@ -220,6 +224,7 @@ impl<A: Allocator + Copy> Panel<A> {
         requires within { self.old.turns + turns ≤ 2 ^ 62 }
         ensures acts { CommandStep self.old (run_command until_idle turns) result self.new }
         ensures confined { ConfinesStop self.old result self.new }
+        ensures within { StopsWithin turns result }
     {
         self.machine.state_is_well_formed();
         a_user_run_is_confined();

@@ -17,3 +17,4 @@ pub use phrase::{Phrase, read_phrase};
 pub use place::Place;
 pub use refusal::Refusal;
 pub use verb::{Meant, WORDS, full_word, word_meant};
+pub use words::{parted, trimmed};

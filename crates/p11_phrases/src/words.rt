@@ -31,7 +31,7 @@ fn first_blank(text: &[u8]) -> Option<usize>
 }
 
 /// A text without the blanks at its front.
-pub(crate) fn trimmed(text: &[u8]) -> &[u8]
+pub fn trimmed(text: &[u8]) -> &[u8]
     ensures { result.now ≡ trimmed text.entry.now }
 {
     match first_graph(text) {
@@ -41,7 +41,7 @@ pub(crate) fn trimmed(text: &[u8]) -> &[u8]
 }
 
 /// The first word of a text that has no blank at its front, and what is behind it.
-pub(crate) fn parted(text: &[u8]) -> (&[u8], &[u8])
+pub fn parted(text: &[u8]) -> (&[u8], &[u8])
     ensures word { result.0.now ≡ first_word text.entry.now }
     ensures rest { result.1.now ≡ behind_word text.entry.now }
 {

@@ -1,5 +1,7 @@
 -- A run of turns as a relation, and the command that asks for it.
-use Rattle.std.specs.Prelude.{◌≡◌, ℕ, ◌<◌, Bool, true, false, ◌&&◌, Option, None, Some, MatchOption, ◌==◌, if◌then◌else◌}
+use Rattle.std.specs.Prelude.{◌≡◌, ℕ, ◌<◌, ◌≤◌, Bool, true, false, ◌&&◌, Option, None, Some, MatchOption, ◌==◌, if◌then◌else◌}
+use Rattle.p11_lines.specs.declared.answer.Answer.{Answer}
+use Rattle.p11_lines.specs.declared.answer.Answer.TheVariants as answers
 use Rattle.p11_lines.specs.declared.answer.StopReason.{StopReason}
 use Rattle.p11_lines.specs.declared.answer.StopReason.TheVariants as reasons
 use Rattle.p11_cpu.specs.State.{State}
@@ -37,3 +39,15 @@ pub record IsRun (idles : State → Bool) (n : ℕ) (s : State) (k : ℕ) (reaso
 abbrev pub run_command : {A : Type 0} → Bool → ℕ → Command A
 run_command true n = Continue n
 run_command false n = Step n
+
+-- a run of n turns answers that it stopped, after n turns at most, or that it is refused
+abbrev pub StopsWithin : {A : Type 0} → ℕ → Answer A → Type 0
+StopsWithin n (answers.Stop typed reason k pc) = k ≤ n
+StopsWithin n (answers.Refused fault) = Unit {0}
+StopsWithin n _ = ⊥
+
+-- the run of a command, if it makes one
+abbrev pub RunsWithin : {A : Type 0} → Command A → Answer A → Type 0
+RunsWithin (Step n) answer = StopsWithin n answer
+RunsWithin (Continue n) answer = StopsWithin n answer
+RunsWithin _ answer = Unit {0}
