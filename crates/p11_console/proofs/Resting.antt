@@ -1,0 +1,29 @@
+-- Where a step does nothing.
+use Rattle.std.proofs.Common.{◌≡◌, refl, sym, subst}
+use Rattle.std.specs.Prelude.{IsTrue}
+use Rattle.p11_console.specs.State.{ConsoleState}
+use Rattle.p11_console.specs.Steps.{Rests, RunRests, TypingRests, takes_memory}
+use Rattle.p11_console.specs.declared.run.Run.{Run}
+use Rattle.p11_console.specs.declared.want.Want.{Want}
+use Rattle.p11_console.specs.declared.want.Want.TheVariants as wants
+use Rattle.p11_console.specs.declared.way.Way.TheVariants.{Typing, Running}
+
+pub running_rests : {A : Type 0} (want : Want) (run : Run) (c : ConsoleState A) → c.way ≡ Running run → RunRests want run c → Rests want c
+running_rests wants.Step run c e h = h
+running_rests wants.Keys run c e h = absurd h
+running_rests wants.Idle run c e h = (run, e, h)
+running_rests wants.Memory run c e h = subst (λ way. IsTrue (takes_memory way)) (sym e) refl
+running_rests wants.Fetch run c e h = absurd h
+running_rests wants.Put run c e h = absurd h
+running_rests wants.Names run c e h = absurd h
+running_rests wants.End run c e h = absurd h
+
+pub typing_rests : {A : Type 0} (want : Want) (c : ConsoleState A) → c.way ≡ Typing → TypingRests want c → Rests want c
+typing_rests wants.Step c e h = h
+typing_rests wants.Keys c e h = (e, h.0, h.1, h.2)
+typing_rests wants.Idle c e h = absurd h
+typing_rests wants.Memory c e h = subst (λ way. IsTrue (takes_memory way)) (sym e) refl
+typing_rests wants.Fetch c e h = absurd h
+typing_rests wants.Put c e h = absurd h
+typing_rests wants.Names c e h = absurd h
+typing_rests wants.End c e h = absurd h

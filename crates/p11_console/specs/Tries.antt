@@ -1,0 +1,95 @@
+-- What a line does, and brings under way.
+use Rattle.std.specs.Prelude.{◌≡◌, ℕ, Bool, true, false, nat_lt, ◌==◌, ◌||◌, List, [], Option, Some, None, Result, Ok, Err, if◌then◌else◌}
+use Rattle.std.specs.Bool.{MatchBool}
+use Rattle.p11_lines.specs.declared.answer.Answer.{Answer}
+use Rattle.p11_lines.specs.declared.answer.Answer.TheVariants as answers
+use Rattle.p11_lines.specs.declared.fault.Fault.TheVariants.{BadLine, TooMany}
+use Rattle.p11_lines.specs.declared.line.Line.{Line}
+use Rattle.p11_lines.specs.declared.line.Line.TheVariants as lines
+use Rattle.p11_lines.specs.Grammar.{line_from}
+use Rattle.p11_cpu.specs.State.{State}
+use Rattle.p11_panel.specs.declared.command.Command.{Command}
+use Rattle.p11_panel.specs.declared.command.Command.TheVariants as commands
+use Rattle.p11_panel.specs.Commands.{CommandStep}
+use Rattle.p11_panel.specs.Session.{has_answer}
+use Rattle.p11_console.specs.Own.{own_of, name_of}
+use Rattle.p11_console.specs.Record.{ended, recorded}
+use Rattle.p11_console.specs.Runs.{run_of, talk_of}
+use Rattle.p11_console.specs.declared.own.Own.{Own}
+use Rattle.p11_console.specs.declared.own.Own.TheVariants as own
+use Rattle.p11_console.specs.declared.way.Way.{Way}
+use Rattle.p11_console.specs.declared.way.Way.TheVariants.{Free, Helping, Running, Telling, Fetching, Putting, Opening, Leaving}
+
+-- a refusal, of which nothing is recorded
+abbrev pub refused : {A : Type 0} → Answer A → Way A
+refused answer = Telling answer [] tt
+
+-- a run has 1 to 100,000,000 turns
+unfoldable pub run_begun : {A : Type 0} → ℕ → Bool → Way A
+run_begun turns until_idle =
+    if turns == 0 || nat_lt 100000000 turns then refused (answers.Refused TooMany) else Running (run_of turns until_idle)
+
+-- the command of a line that makes no run and names no file; and of another line that one
+unfoldable pub command_of : {A : Type 0} → Line A → Result (Command A) (Line A)
+command_of (lines.Unmount drive) = Ok (commands.Unmount drive)
+command_of (lines.Changed drive) = Ok (commands.Changed drive)
+command_of (lines.Examine address count) = Ok (commands.Examine address count)
+command_of (lines.Deposit address words) = Ok (commands.Deposit address words)
+command_of (lines.Start address) = Ok (commands.Start address)
+command_of (lines.Key text) = Ok (commands.Key text)
+command_of lines.Tick = Ok commands.Tick
+command_of (lines.Clock period) = Ok (commands.Clock period)
+command_of (lines.Switches word) = Ok (commands.Switches word)
+command_of (lines.Set register value) = Ok (commands.Set register value)
+command_of lines.Flush = Ok commands.Flush
+command_of lines.Regs = Ok commands.Regs
+command_of lines.Device = Ok commands.Device
+command_of line = Err line
+
+-- a command is done, is told next, and its line is recorded unless it was refused
+unfoldable pub Acts : {A : Type 0} → Command A → List ℕ → State → Way A → State → Type 0
+Acts {A} command text s way s' =
+    (answer : Answer A) × CommandStep s command answer s' × (way ≡ Telling answer (recorded text answer) tt)
+
+-- a line of the language is a command, or waits for its file
+abbrev pub ActsOr : {A : Type 0} → Line A → Result (Command A) (Line A) → State → Way A → State → Type 0
+ActsOr line (Ok command) s way s' = Acts command (ended line) s way s'
+ActsOr line (Err other) s way s' = (way ≡ Fetching other (ended line)) × (s' ≡ s)
+
+-- the image of a pack waits for its file
+unfoldable pub way_saved : {A : Type 0} → Line A → List ℕ → Answer A → Way A
+way_saved line text (answers.Image image) = Putting line image text
+way_saved line text answer = Telling answer (recorded text answer) tt
+
+unfoldable pub Saves : {A : Type 0} → ℕ → Line A → List ℕ → State → Way A → State → Type 0
+Saves {A} drive line text s way s' =
+    (answer : Answer A) × CommandStep s (commands.Save drive) answer s' × (way ≡ way_saved line text answer)
+
+unfoldable pub TriesLine : {A : Type 0} → Line A → State → Way A → State → Type 0
+TriesLine (lines.Step turns) s way s' = (way ≡ run_begun turns false) × (s' ≡ s)
+TriesLine (lines.Continue turns) s way s' = (way ≡ run_begun turns true) × (s' ≡ s)
+TriesLine {A} (lines.Save drive name) s way s' =
+    Saves {A = A} drive (lines.Save drive name) (ended {A = A} (lines.Save drive name)) s way s'
+TriesLine line s way s' = ActsOr line (command_of line) s way s'
+
+-- by what the grammar makes of it
+abbrev pub TriesOr : {A : Type 0} → Option (Line A) → State → Way A → State → Type 0
+TriesOr None s way s' = (way ≡ refused (answers.Refused BadLine)) × (s' ≡ s)
+TriesOr (Some line) s way s' = TriesLine line s way s'
+
+-- a text that may be a line of the language; a blank one or a remark does nothing
+unfoldable pub Tries : {A : Type 0} → List ℕ → State → Way A → State → Type 0
+Tries text s way s' = MatchBool (has_answer text) (TriesOr (line_from text) s way s') ((way ≡ Free) × (s' ≡ s))
+
+-- a line by what it is to the console
+abbrev pub Does : {A : Type 0} → Own → List ℕ → State → Way A → State → Type 0
+Does own.Talk line s way s' = (way ≡ Running talk_of) × (s' ≡ s)
+Does own.Once line s way s' = (way ≡ run_begun 1 false) × (s' ≡ s)
+Does own.Quit line s way s' = (way ≡ Leaving) × (s' ≡ s)
+Does own.Help line s way s' = (way ≡ Helping tt) × (s' ≡ s)
+Does own.Do line s way s' = (way ≡ Opening (name_of line)) × (s' ≡ s)
+Does own.Language line s way s' = Tries line s way s'
+
+-- a line that was typed, or that a typed one means
+unfoldable pub DoesLine : {A : Type 0} → List ℕ → State → Way A → State → Type 0
+DoesLine line s way s' = Does (own_of line) line s way s'

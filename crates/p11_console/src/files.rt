@@ -1,0 +1,90 @@
+// The files that lines wait for.
+ghost use Rattle.std.specs.Prelude.{◌≡◌, option_copied};
+ghost use Rattle.p11_console.specs.Files.{GivesLine, file_command, file_of, file_name, way_put};
+ghost use Rattle.p11_console.specs.Tries.{refused};
+ghost use Rattle.p11_panel.specs.Session.{fault_of};
+
+use crate::note::Note;
+use crate::reasons::note_of;
+use crate::tries::{act, refused};
+use crate::way::Way;
+use p11_lines::{Answer, Bytes, Fault, Line};
+use p11_panel::{Command, Panel, StoreError};
+use std::alloc::Allocator;
+
+/// The name of the file that a line reads or writes.
+#[tactic(auto, unfolding(crate::specs::Files::file_name))]
+pub(crate) fn name_of<A: Allocator>(line: &Line<A>) -> Option<&[u8]>
+    ensures { option_copied result ≡ file_name line.now }
+{
+    match line {
+        Line::Mount { name, .. } => Some(name.as_slice()),
+        Line::Load { name } => Some(name.as_slice()),
+        Line::Save { name, .. } => Some(name.as_slice()),
+        _ => None,
+    }
+}
+
+/// The command of a line on the bytes of its file.
+#[tactic(auto, unfolding(crate::specs::Files::file_command))]
+fn command_on<A: Allocator>(line: &Line<A>, bytes: Bytes<A>) -> Option<Command<A>>
+    ensures { result ≡ file_command line.now bytes }
+{
+    match line {
+        Line::Mount { drive, protect, .. } => Some(Command::Mount {
+            drive: *drive,
+            image: bytes,
+            protect: *protect,
+        }),
+        Line::Load { .. } => Some(Command::Load { tape: bytes }),
+        _ => None,
+    }
+}
+
+/// The refusal of a line whose file can't be had.
+pub(crate) fn refuse<A: Allocator + Copy>(alloc: A, error: StoreError) -> Way<A>
+    ensures { result ≡ refused (Answer.Refused (fault_of error)) }
+{
+    match error {
+        StoreError::Refused => refused(alloc, Fault::StoreFault, note_of(alloc, Fault::StoreFault)),
+        StoreError::NoMemory => refused(alloc, Fault::NoMemory, note_of(alloc, Fault::NoMemory)),
+    }
+}
+
+/// Does a line on its file: what comes under way.
+#[tactic(auto, unfolding(crate::specs::Files::GivesLine))]
+pub(crate) fn give_line<A: Allocator + Copy>(
+    alloc: A,
+    panel: &mut Panel<A>,
+    line: &Line<A>,
+    text: Bytes<A>,
+    file: Result<Vec<u8, A>, StoreError>,
+) -> Way<A>
+    ensures { GivesLine (file_of file) line.now text panel.old result panel.new }
+{
+    match file {
+        Ok(bytes) => match command_on(line, Bytes::from_vec(bytes)) {
+            Some(command) => act(alloc, panel, command, text),
+            None => refuse(alloc, StoreError::Refused),
+        },
+        Err(error) => refuse(alloc, error),
+    }
+}
+
+/// What comes under way once a file is written, or not.
+pub(crate) fn way_put<A: Allocator + Copy>(
+    alloc: A,
+    done: Result<(), StoreError>,
+    text: Bytes<A>,
+) -> Way<A>
+    ensures { result ≡ way_put done text }
+{
+    match done {
+        Ok(()) => Way::Telling {
+            answer: Answer::Done,
+            text,
+            note: Note::none(),
+        },
+        Err(_) => refuse(alloc, StoreError::Refused),
+    }
+}

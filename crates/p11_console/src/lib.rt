@@ -1,0 +1,40 @@
+//! The operator's console as a state machine: it is given events, and gives bytes to write and requests to its host.
+//!
+//! Nothing here reads or writes. `Console::keys` takes what a keyboard gives, `step` does one thing, and `screen` and `record`
+//! are what there is to write. A file is asked for by `Want::Fetch` and `Want::Put`.
+//!
+//! It has no lines through a pipe (without a prompt), no `save` that writes nothing, no history from a file, no sentence on a
+//! line's own fault, and doesn't know that a pack which was written was saved. Two laws are open: that a list of events has
+//! one outcome, and that the record does it again.
+#![tactic(auto)]
+
+mod buffer;
+mod completing;
+mod console;
+mod files;
+mod help;
+mod lines;
+mod note;
+mod own;
+mod reasons;
+mod record;
+mod run;
+mod scripts;
+mod slices;
+mod stop;
+#[cfg(test)]
+mod tests;
+mod text;
+mod tries;
+mod typist;
+mod want;
+mod way;
+
+pub use console::Console;
+pub use note::{Note, Topic};
+pub use own::Own;
+pub use run::{Course, Run};
+pub use stop::{Cause, Stop};
+pub use typist::Typist;
+pub use want::Want;
+pub use way::Way;

@@ -1,0 +1,59 @@
+// What is said freely: contracts say where, and not what.
+use p11_lines::Bytes;
+use std::alloc::{Allocator, Global};
+use std::marker::Model;
+
+/// What is said behind an answer. Contracts see nothing of it.
+#[derive(Drop)]
+pub struct Note<A: Allocator = Global> {
+    text: Option<Bytes<A>>,
+}
+
+impl<A: Allocator> Model for Note<A> {
+    ghost Value = { Unit {0} };
+
+    ghost view = { λ _. tt };
+}
+
+impl<A: Allocator> Note<A> {
+    /// Nothing.
+    pub(crate) fn none() -> Self {
+        Note { text: None }
+    }
+
+    /// This text.
+    pub(crate) fn of(text: Vec<u8, A>) -> Self {
+        Note {
+            text: Some(Bytes::from_vec(text)),
+        }
+    }
+
+    pub(crate) fn as_slice(&self) -> &[u8] {
+        match &self.text {
+            Some(text) => text.as_slice(),
+            None => &[],
+        }
+    }
+}
+
+/// The word that help is asked for, by its place among the words. Contracts see nothing of it.
+#[derive(Drop)]
+pub struct Topic {
+    place: Option<usize>,
+}
+
+impl Model for Topic {
+    ghost Value = { Unit {0} };
+
+    ghost view = { λ _. tt };
+}
+
+impl Topic {
+    pub(crate) fn new(place: Option<usize>) -> Self {
+        Topic { place }
+    }
+
+    pub(crate) fn place(&self) -> Option<usize> {
+        self.place
+    }
+}

@@ -1,0 +1,164 @@
+// A run of the machine that is made in slices, and what comes next in it.
+ghost use Rattle.std.specs.Prelude.{◌≡◌, position, if◌then◌else◌};
+ghost use Rattle.p11_console.specs.Runs.{run_of, talk_of, is_escape, has_escape, course_of, in_talk, pressed_on};
+
+/// A run: the turns that are left, those that the record lacks and all that were made, and how it goes on.
+#[derive(Clone, Copy)]
+pub struct Run {
+    /// Whether keys go to the machine, until somebody ends it.
+    pub is_talk: bool,
+    /// Whether it stops where the machine idles.
+    pub until_idle: bool,
+    pub left: u32,
+    /// Turns that aren't recorded yet.
+    pub made: u32,
+    pub total: u64,
+    /// Whether the machine idles.
+    pub is_idle: bool,
+    /// Slices since the machine took a key, while keys wait.
+    pub stuck: u32,
+    /// Whether the last byte that was typed ends a line, if there was any.
+    pub is_fresh: bool,
+}
+
+/// What comes next in a run.
+#[derive(Clone, Copy, PartialEq, Eq)]
+pub enum Course {
+    /// A slice is made.
+    Slices,
+    /// Keys are pressed.
+    Presses,
+    /// The line clock ticks.
+    Ticks,
+    /// The turns so far are recorded.
+    Records,
+    /// Ctrl-E ends it.
+    Escapes,
+    /// The end of the keyboard ends it.
+    Ends,
+    /// The machine idles, and no key waits that it takes.
+    Rests,
+}
+
+/// Ctrl-E.
+pub(crate) const ESCAPE: u8 = 5;
+
+/// The most turns of a line of the record, and of a run with a count.
+pub(crate) const MOST_TURNS: u32 = 100_000_000;
+
+/// So many slices in a row in which the machine takes none of the keys that wait: a Ctrl-E behind them ends the run.
+const PATIENCE: u32 = 200;
+
+/// A run of so many turns.
+#[tactic(auto, unfolding(crate::specs::Runs::run_of))]
+pub(crate) fn run_of(turns: u32, until_idle: bool) -> Run
+    ensures { result ≡ run_of turns until_idle }
+{
+    Run {
+        is_talk: false,
+        until_idle,
+        left: turns,
+        made: 0,
+        total: 0,
+        is_idle: false,
+        stuck: 0,
+        is_fresh: true,
+    }
+}
+
+/// A talk with the machine.
+#[tactic(auto, unfolding(crate::specs::Runs::talk_of))]
+pub(crate) fn talk_of() -> Run
+    ensures { result ≡ talk_of }
+{
+    Run {
+        is_talk: true,
+        until_idle: true,
+        left: MOST_TURNS,
+        made: 0,
+        total: 0,
+        is_idle: false,
+        stuck: 0,
+        is_fresh: true,
+    }
+}
+
+/// Where the first Ctrl-E is.
+#[tactic(auto, unfolding(crate::specs::Runs::is_escape))]
+pub(crate) fn escape_in(keys: &[u8]) -> Option<usize>
+    ensures { result ≡ position is_escape keys.now }
+{
+    keys.iter().position(|byte| *byte == ESCAPE)
+}
+
+fn has_escape(keys: &[u8]) -> bool
+    ensures { result ≡ has_escape keys.now }
+{
+    escape_in(keys).is_some()
+}
+
+/// What comes next in a run, with so many ticks that wait, these keys and so much room for them.
+#[tactic(auto, unfolding(crate::specs::Runs::course_of))]
+pub(crate) fn course_of(run: Run, ticks: u32, is_over: bool, keys: &[u8], room: u32) -> Course
+    ensures { result ≡ course_of run ticks is_over keys.now room }
+{
+    if ticks > 0 {
+        return Course::Ticks;
+    }
+    if run.made >= MOST_TURNS {
+        return Course::Records;
+    }
+    if run.is_talk {
+        return in_talk(run, is_over, keys, room);
+    }
+    if has_escape(keys) {
+        return Course::Escapes;
+    }
+    Course::Slices
+}
+
+#[tactic(auto, unfolding(crate::specs::Runs::in_talk))]
+fn in_talk(run: Run, is_over: bool, keys: &[u8], room: u32) -> Course
+    ensures { result ≡ in_talk run is_over keys.now room }
+{
+    if keys.is_empty() {
+        if is_over {
+            return Course::Ends;
+        }
+        return slices_or_rests(run);
+    }
+    if keys[0] == ESCAPE {
+        return Course::Escapes;
+    }
+    if room > 0 {
+        return Course::Presses;
+    }
+    if !run.is_idle && run.stuck < PATIENCE {
+        return Course::Slices;
+    }
+    if has_escape(keys) {
+        return Course::Escapes;
+    }
+    slices_or_rests(run)
+}
+
+fn slices_or_rests(run: Run) -> Course
+    ensures { result ≡ (if run.is_idle then Course.Rests else Course.Slices) }
+{
+    if run.is_idle {
+        return Course::Rests;
+    }
+    Course::Slices
+}
+
+/// The run once keys were pressed, or the clock ticked.
+pub(crate) fn pressed_on(run: Run) -> Run
+    ensures { result ≡ pressed_on run }
+{
+    Run {
+        made: 0,
+        is_idle: false,
+        stuck: 0,
+        ..run
+    }
+}

@@ -1,0 +1,39 @@
+// A text that is said: bytes for which there is no memory are left out.
+use itoa::Buffer as Digits;
+use std::alloc::Allocator;
+
+/// A text that is said. Contracts don't see it.
+#[derive(Drop)]
+pub(crate) struct Text<A: Allocator> {
+    bytes: Vec<u8, A>,
+}
+
+impl<A: Allocator> Text<A> {
+    /// None.
+    pub(crate) fn new(alloc: A) -> Self {
+        Text {
+            bytes: Vec::new(alloc),
+        }
+    }
+
+    /// Bytes more.
+    pub(crate) fn add(&mut self, bytes: &[u8]) {
+        let _ = self.bytes.extend_from_slice(bytes);
+    }
+
+    /// A number more, in decimal.
+    pub(crate) fn add_number(&mut self, number: u64) {
+        let mut digits = Digits::new();
+        self.add(digits.format(number).as_bytes());
+    }
+
+    pub(crate) fn as_slice(&self) -> &[u8] {
+        self.bytes.as_slice()
+    }
+
+    /// Its bytes.
+    pub(crate) fn into_vec(self) -> Vec<u8, A> {
+        let Text { bytes } = self;
+        bytes
+    }
+}

@@ -1,0 +1,223 @@
+// A line that is done.
+ghost use Rattle.std.specs.Prelude.{◌≡◌, [], IfOk, OnErr};
+ghost use Rattle.p11_panel.specs.Session.{is_silent, has_answer};
+ghost use Rattle.p11_panel.specs.Commands.{CommandStep};
+ghost use Rattle.p11_console.specs.Own.{name_of};
+ghost use Rattle.p11_console.specs.Tries.{Tries, TriesLine, Acts, Saves, way_saved, run_begun, command_of, DoesLine};
+
+use crate::note::{Note, Topic};
+use crate::own::{Own, name_of, own_of, verb_and_rest};
+use crate::reasons::{note_of, note_of_line};
+use crate::record::{record_line, recorded};
+use crate::run::{MOST_TURNS, run_of, talk_of};
+use crate::way::Way;
+use p11_lines::{Answer, Bytes, Fault, Line, NoMemory, parse_line};
+use p11_panel::{Command, Panel};
+use p11_phrases::{Meant, parted, word_meant};
+use std::alloc::Allocator;
+
+/// Whether a line is blank or a remark.
+#[tactic(auto, unfolding(p11_panel::specs::Session::is_silent))]
+fn is_silent(line: &[u8]) -> bool
+    ensures { result ≡ is_silent line.now }
+{
+    let mut rest = line;
+    while let [first, after @ ..] = rest {
+        if *first != b' ' && *first != b'\t' {
+            return *first == b'#';
+        }
+        rest = after;
+    }
+    true
+}
+
+/// A refusal, of which nothing is recorded.
+pub(crate) fn refused<A: Allocator>(alloc: A, fault: Fault, note: Note<A>) -> Way<A>
+    ensures { result ≡ Way.Telling (Answer.Refused fault) [] tt }
+{
+    Way::Telling {
+        answer: Answer::Refused(fault),
+        text: Bytes::from_vec(Vec::new(alloc)),
+        note,
+    }
+}
+
+/// What the line of a run brings under way.
+#[tactic(auto, unfolding(crate::specs::Tries::run_begun))]
+pub(crate) fn begin_run<A: Allocator + Copy>(alloc: A, turns: u32, until_idle: bool) -> Way<A>
+    ensures { result ≡ run_begun turns until_idle }
+{
+    if turns == 0 || turns > MOST_TURNS {
+        return refused(alloc, Fault::TooMany, note_of(alloc, Fault::TooMany));
+    }
+    Way::Running(run_of(turns, until_idle))
+}
+
+/// The command of a line that makes no run and names no file; and of another line that one.
+#[tactic(auto, unfolding(crate::specs::Tries::command_of))]
+fn command<A: Allocator>(line: Line<A>) -> Result<Command<A>, Line<A>>
+    ensures { result ≡ command_of line }
+{
+    match line {
+        Line::Unmount { drive } => Ok(Command::Unmount { drive }),
+        Line::Changed { drive } => Ok(Command::Changed { drive }),
+        Line::Examine { address, count } => Ok(Command::Examine { address, count }),
+        Line::Deposit { address, words } => Ok(Command::Deposit { address, words }),
+        Line::Start { address } => Ok(Command::Start { address }),
+        Line::Key { text } => Ok(Command::Key { text }),
+        Line::Tick => Ok(Command::Tick),
+        Line::Clock { period } => Ok(Command::Clock { period }),
+        Line::Switches { word } => Ok(Command::Switches { word }),
+        Line::Set { register, value } => Ok(Command::Set { register, value }),
+        Line::Flush => Ok(Command::Flush),
+        Line::Regs => Ok(Command::Regs),
+        Line::Device => Ok(Command::Device),
+        other => Err(other),
+    }
+}
+
+/// What is said behind an answer.
+fn note_behind<A: Allocator + Copy>(alloc: A, answer: &Answer<A>) -> Note<A> {
+    match answer {
+        Answer::Refused(fault) => note_of(alloc, *fault),
+        _ => Note::none(),
+    }
+}
+
+/// Does a command, whose line has this text in the record.
+#[tactic(auto, unfolding(crate::specs::Tries::Acts))]
+pub(crate) fn act<A: Allocator + Copy>(
+    alloc: A,
+    panel: &mut Panel<A>,
+    command: Command<A>,
+    text: Bytes<A>,
+) -> Way<A>
+    ensures { Acts command text panel.old result panel.new }
+{
+    let answer = panel.act(alloc, &command);
+    let text = recorded(alloc, &answer, text);
+    let note = note_behind(alloc, &answer);
+    Way::Telling { answer, text, note }
+}
+
+/// What comes behind an answer of SAVE.
+#[tactic(auto, unfolding(crate::specs::Tries::way_saved))]
+fn way_saved<A: Allocator + Copy>(
+    alloc: A,
+    line: Line<A>,
+    text: Bytes<A>,
+    answer: Answer<A>,
+) -> Way<A>
+    ensures { result ≡ way_saved line text answer }
+{
+    match answer {
+        Answer::Image(image) => Way::Putting { line, image, text },
+        answer => {
+            let text = recorded(alloc, &answer, text);
+            let note = note_behind(alloc, &answer);
+            Way::Telling { answer, text, note }
+        }
+    }
+}
+
+/// Does SAVE, up to the file.
+#[tactic(auto, unfolding(crate::specs::Tries::Saves))]
+fn save<A: Allocator + Copy>(
+    alloc: A,
+    panel: &mut Panel<A>,
+    drive: u32,
+    line: Line<A>,
+    text: Bytes<A>,
+) -> Way<A>
+    ensures { Saves drive line text panel.old result panel.new }
+{
+    let answer = panel.act(alloc, &Command::Save { drive });
+    way_saved(alloc, line, text, answer)
+}
+
+/// Does a line of the language.
+#[tactic(auto, unfolding(crate::specs::Tries::TriesLine))]
+fn try_line<A: Allocator + Copy>(
+    alloc: A,
+    panel: &mut Panel<A>,
+    line: Line<A>,
+) -> Result<Way<A>, NoMemory>
+    ensures ok { IfOk result (λ way. TriesLine line panel.old way panel.new) }
+    ensures err { OnErr result (panel.new ≡ panel.old) }
+{
+    match line {
+        Line::Step { turns } => Ok(begin_run(alloc, turns, false)),
+        Line::Continue { turns } => Ok(begin_run(alloc, turns, true)),
+        Line::Save { drive, name } => {
+            let line = Line::Save { drive, name };
+            let text = record_line(alloc, &line)?;
+            Ok(save(alloc, panel, drive, line, text))
+        }
+        line => {
+            let text = record_line(alloc, &line)?;
+            match command(line) {
+                Ok(command) => Ok(act(alloc, panel, command, text)),
+                Err(line) => Ok(Way::Fetching { line, text }),
+            }
+        }
+    }
+}
+
+/// Does a text that may be a line of the language. For want of memory nothing is done.
+#[tactic(auto, unfolding(crate::specs::Tries::Tries, p11_panel::specs::Session::has_answer))]
+pub(crate) fn try_text<A: Allocator + Copy>(
+    alloc: A,
+    panel: &mut Panel<A>,
+    text: &[u8],
+) -> Result<Way<A>, NoMemory>
+    ensures ok { IfOk result (λ way. Tries text.now panel.old way panel.new) }
+    ensures err { OnErr result (panel.new ≡ panel.old) }
+{
+    if text.len() <= 4096 && is_silent(text) {
+        return Ok(Way::Free);
+    }
+    match parse_line(alloc, text) {
+        Ok(line) => try_line(alloc, panel, line),
+        Err(Fault::NoMemory) => Err(NoMemory),
+        Err(fault) => Ok(refused(alloc, fault, note_of_line(alloc, text))),
+    }
+}
+
+/// What help is asked for.
+fn topic_of(line: &[u8]) -> Topic {
+    match word_meant(parted(verb_and_rest(line).1).0) {
+        Meant::Word(place) => Topic::new(Some(place)),
+        Meant::Several | Meant::Nothing => Topic::new(None),
+    }
+}
+
+/// The lines of a file are asked for.
+fn open_script<A: Allocator>(alloc: A, line: &[u8]) -> Result<Way<A>, NoMemory>
+    ensures { IfOk result (λ way. way ≡ Way.Opening (name_of line.now)) }
+{
+    let mut name = Vec::new(alloc);
+    name.extend_from_slice(name_of(line))?;
+    Ok(Way::Opening {
+        name: Bytes::from_vec(name),
+    })
+}
+
+/// Does a line that was typed, or that a typed one means. For want of memory nothing is done.
+#[tactic(auto, unfolding(crate::specs::Tries::DoesLine))]
+pub(crate) fn do_line<A: Allocator + Copy>(
+    alloc: A,
+    panel: &mut Panel<A>,
+    line: &[u8],
+) -> Result<Way<A>, NoMemory>
+    ensures ok { IfOk result (λ way. DoesLine line.now panel.old way panel.new) }
+    ensures err { OnErr result (panel.new ≡ panel.old) }
+{
+    match own_of(line) {
+        Own::Talk => Ok(Way::Running(talk_of())),
+        Own::Once => Ok(begin_run(alloc, 1, false)),
+        Own::Quit => Ok(Way::Leaving),
+        Own::Help => Ok(Way::Helping(topic_of(line))),
+        Own::Do => open_script(alloc, line),
+        Own::Language => try_text(alloc, panel, line),
+    }
+}

@@ -1,0 +1,118 @@
+// Who types lines: the keys so far, the line, and the lines before it.
+ghost use Rattle.std.specs.Prelude.{◌≡◌, map, OnOk, OnErr};
+ghost use Rattle.p11_console.specs.Typing.{by_key, taken, fresh, rested, line_of, kept_line, outcome_way, CompletedBy};
+
+use crate::own::verb_and_rest;
+use crate::way::Way;
+use p11_line_editor::{Decoder, Editor, History, Key, Outcome};
+use std::alloc::{AllocError, Allocator, Global};
+
+/// Who types lines: the keys so far, the line, and the lines before it.
+pub struct Typist<A: Allocator = Global> {
+    pub(crate) decoder: Decoder,
+    pub(crate) editor: Editor,
+    pub(crate) history: History<A>,
+    /// Whether a line has just ended by CR: an LF right behind it, as in a text that is pasted, is no key.
+    pub(crate) has_returned: bool,
+}
+
+impl<A: Allocator> Drop for Typist<A> {
+    fn drop(self) {
+        let Typist {
+            decoder: _,
+            editor,
+            history,
+            has_returned: _,
+        } = self;
+    }
+}
+
+impl<A: Allocator> Typist<A> {
+    /// Nothing is typed yet.
+    #[tactic(auto, unfolding(crate::specs::Typing::fresh))]
+    pub(crate) fn new(alloc: A) -> Self
+        ensures { result ≡ fresh }
+    {
+        Typist {
+            decoder: Decoder::new(),
+            editor: Editor::new(),
+            history: History::new(alloc),
+            has_returned: false,
+        }
+    }
+
+    /// Takes a byte of the keyboard: what the key that it ends has led to.
+    #[tactic(auto, unfolding(crate::specs::Typing::taken))]
+    pub(crate) fn take(&mut self, byte: u8) -> Option<Outcome>
+        ensures { taken byte self.old ≡ (self.new, result) }
+    {
+        let is_end = byte == b'\n' && self.has_returned;
+        self.has_returned = byte == b'\r';
+        if is_end {
+            return None;
+        }
+        let key = self.decoder.key(byte);
+        self.press(key)
+    }
+
+    fn press(&mut self, key: Option<Key>) -> Option<Outcome>
+        ensures { by_key self.old key ≡ (self.new, result) }
+    {
+        match key {
+            Some(key) => Some(self.editor.press(key, &self.history)),
+            None => None,
+        }
+    }
+
+    /// Nothing more is pressed for now.
+    #[tactic(auto, unfolding(crate::specs::Typing::rested))]
+    pub(crate) fn pause(&mut self)
+        ensures { self.new ≡ rested self.old }
+    {
+        self.decoder.pause();
+        self.has_returned = false;
+    }
+
+    /// Completes the word at the cursor by these. A space follows the only one, unless it is a folder.
+    pub(crate) fn complete(&mut self, words: &[&[u8]]) -> Outcome
+        ensures { CompletedBy (map (λ word. word.now) words.now) self.old self.new }
+    {
+        let outcome = self.editor.complete(words);
+        if words.len() != 1 || words[0].last() == Some(&b'/') {
+            return outcome;
+        }
+        let _ = self.editor.press(Key::Character(b' '), &self.history);
+        Outcome::Changed
+    }
+
+    /// Begins a line.
+    pub(crate) fn begin(&mut self)
+        ensures { self.new ≡ line_of self.old }
+    {
+        self.editor.begin();
+    }
+
+    /// Keeps the line that is ended, if it has a word.
+    #[tactic(auto, unfolding(crate::specs::Typing::kept_line))]
+    pub(crate) fn keep(&mut self, alloc: A) -> Result<(), AllocError>
+        ensures ok { OnOk result (self.new ≡ kept_line self.old) }
+        ensures err { OnErr result (self.new ≡ self.old) }
+    {
+        if verb_and_rest(self.editor.text()).0.is_empty() {
+            return Ok(());
+        }
+        self.history.remember(alloc, self.editor.text())
+    }
+}
+
+/// What comes under way by what a key has led to.
+pub(crate) fn outcome_way<A: Allocator>(outcome: Option<Outcome>) -> Way<A>
+    ensures { result ≡ outcome_way outcome }
+{
+    match outcome {
+        Some(Outcome::Done) => Way::Entered,
+        Some(Outcome::Complete) => Way::Naming,
+        Some(Outcome::Ended) => Way::Leaving,
+        _ => Way::Typing,
+    }
+}
