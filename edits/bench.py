@@ -1,0 +1,105 @@
+"""A copy of a crate in which its edits are tried, one after another."""
+import glob
+import os
+import subprocess
+import tempfile
+import threading
+
+from edit import Bad
+from functions import place_of
+from proved import words_of_check
+from verdict import REFUSED, judge
+
+
+class Over(Exception):
+    """A signal has ended the run, so no check begins."""
+
+
+class Checks:
+    """The checks that run, so that a signal can end them."""
+
+    def __init__(self):
+        self.running, self.is_over, self.lock = set(), False, threading.Lock()
+
+    def run(self, words, folder):
+        """What a command said, and the seconds of processor that it took."""
+        with tempfile.TemporaryFile("w+", errors="replace") as said:
+            with self.lock:
+                if self.is_over:
+                    raise Over()
+                child = subprocess.Popen(words, cwd=folder, stdin=subprocess.DEVNULL, stdout=said, stderr=subprocess.STDOUT)
+                self.running.add(child)
+            _, status, used = os.wait4(child.pid, 0)
+            with self.lock:
+                child.returncode = os.waitstatus_to_exitcode(status)
+                self.running.remove(child)
+                if self.is_over:
+                    raise Over()
+            said.seek(0)
+            return said.read(), used.ru_utime + used.ru_stime
+
+    def end(self):
+        with self.lock:
+            self.is_over = True
+            for child in self.running:
+                child.kill()
+
+
+class Bench:
+    """The copy in `place` of one of the crates that are proved. What a check has proved there serves the next one."""
+
+    def __init__(self, crates, crate, place, checks):
+        self.folder, self.checks, proved = os.path.join(place, crate), checks, os.path.join(place, "proved")
+        crates.copy(crate, self.folder)
+        os.mkdir(proved)
+        self.words = [*words_of_check(crates, crate), "--incremental", proved]
+        self.sources = sources_of(self.folder)
+
+    def try_together(self, edits):
+        """What came of each of these edits, made together: the verdict, why, and its part of the seconds of processor."""
+        sources = dict(self.sources)
+        for edit in edits:
+            sources[edit.file] = edit.change(sources[edit.file])
+        names = dict.fromkeys(name for edit in edits for name in edit.names())
+        self.write(sources)
+        text, seconds = self.checks.run([*self.words, *(word for name in names for word in ("--only", name))], self.folder)
+        self.write(self.sources)
+        return [(*judge(edit, text, *place_in(edit, sources)), seconds / len(edits)) for edit in edits]
+
+    def write(self, sources):
+        for path, text in sources.items():
+            with open(os.path.join(self.folder, path), "w", encoding="utf-8") as file:
+                file.write(text)
+
+    def try_batch(self, edits):
+        """What came of each of these edits. One that isn't refused together with others is tried alone."""
+        try:
+            found = self.try_together(edits)
+        except Bad:
+            # (one makes a text that another one changes)
+            found = [(None, None, 0.0)] * len(edits)
+        if len(edits) == 1:
+            return found
+        for at, edit in enumerate(edits):
+            if found[at][0] != REFUSED:
+                [(verdict, why, seconds)] = self.try_together([edit])
+                found[at] = verdict, why, found[at][2] + seconds
+        return found
+
+
+def place_in(edit, sources):
+    """The file and the lines of the function that has to be refused, after the change."""
+    for path in [edit.file, *sources]:
+        function = place_of(edit.judged(), sources[path])
+        if function:
+            return path, function.lines(sources[path])
+    return edit.file, (0, -1)
+
+
+def sources_of(folder):
+    """The texts of a crate's program, by their paths in its folder."""
+    found = {}
+    for path in sorted(glob.glob("src/**/*.rt", root_dir=folder, recursive=True)):
+        with open(os.path.join(folder, path), encoding="utf-8") as file:
+            found[path] = file.read()
+    return found

@@ -1,0 +1,54 @@
+"""What the check of one function says of an edit: refused, bad or not refused, with what shows it.
+
+An edit is refused if the checker ran to its end, the function that the edit names was checked, and a goal of it isn't proved, or
+of the caller that the edit names. All else that isn't proved shows nothing of a contract: a text that doesn't parse or type, a
+name that a proof file looks for in vain, a refusal elsewhere, a limit of the prover.
+"""
+import re
+
+REFUSED, BAD, NOT_REFUSED = "refused", "bad", "not refused"
+FUNCTION = re.compile(r"^fn (\S+): (proved|not proved|no proof|could not tell)", re.M)
+TOLD = re.compile(r"^(?:note: )?(?:\./)?(?P<file>(?:src|specs|proofs)/[^:\s]+):(?P<line>\d+):\d+: (?P<says>.*)$", re.M)
+OPEN = re.compile(r"not proved|error")
+NAMES_ALONE = re.compile(r"has no field|is not in scope|has no `|was not admitted")
+ENDED = re.compile(r"^only=\d+ proved=\d+$", re.M)
+
+
+def named(functions, name):
+    """The one function that was checked whose path ends with this name, or None."""
+    found = [it for it in functions if it == name or it.endswith("::" + name)]
+    return found[0] if len(found) == 1 else None
+
+
+def is_of(told, path, file, lines):
+    """Whether a line is of the function with this path: of its text, these lines of this file, or of its own proof files."""
+    own_proofs = "proofs/" + "/".join(path.split("::")[1:]) + "/"
+    return told["file"].startswith(own_proofs) or told["file"] == file and lines[0] <= int(told["line"]) <= lines[1]
+
+
+def first_error(text):
+    lines = [line for line in text.split("\n") if line.strip()]
+    return next((line for line in lines if "error" in line), lines[-1] if lines else "it said nothing")
+
+
+def judge(edit, text, file, lines):
+    """The verdict on an edit, and why, by what its check said. The function that has to be refused stands in these lines of
+    this file, after the change."""
+    if not ENDED.search(text):
+        return BAD, f"the prover wasn't reached: {first_error(text)}"
+    functions = dict(FUNCTION.findall(text))
+    for name in edit.names():
+        if not named(functions, name):
+            return BAD, f"no function {name} was checked, but {', '.join(sorted(functions)) or 'none'}"
+    path = named(functions, edit.judged())
+    if functions[path] == "proved":
+        return NOT_REFUSED, f"{path} is still proved"
+    told = [it for it in TOLD.finditer(text) if is_of(it, path, file, lines) and OPEN.search(it["says"])]
+    goals = [it for it in told if it["file"].startswith("src/") or not NAMES_ALONE.search(it["says"])]
+    if functions[path] == "could not tell":
+        return BAD, f"the prover gave no verdict on {path}"
+    if goals:
+        return REFUSED, f"{goals[0]['file']}:{goals[0]['line']}: {goals[0]['says']}"
+    if told:
+        return BAD, f"only a name in a proof file is gone: {told[0]['file']}:{told[0]['line']}: {told[0]['says']}"
+    return BAD, f"{path} isn't proved, but no goal of it is told: {first_error(text)}"
