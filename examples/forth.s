@@ -1,8 +1,7 @@
-# FORTH-83 for the PDP-11/40: boots from sector 0 of drive 0, compiles, keeps blocks on RK05 packs, and runs tasks. For
-# GNU's assembler; its pack has the texts of the folder forth/ too:
-#   pdp11-aout-as -o forth.o examples/forth.s
-#   pdp11-aout-ld -Ttext=0 -e start -o forth forth.o
-#   examples/forth-pack examples/forth.pack forth
+# FORTH-83 for the PDP-11/40: boots from sector 0 of drive 0, compiles, keeps blocks on RK05 packs, and runs tasks. Its
+# pack has the texts of the folder forth/ too:
+#   examples/asm --at 0 -o examples/forth.pack examples/forth.s
+#   examples/forth-pack examples/forth.pack
 #
 # Direct threading. A thread is a list of addresses of code; R4 points behind the one that runs, and NEXT is JMP @(R4)+.
 # A colon definition begins with JSR R4,@#docol, which pushes the caller's R4 and makes R4 its body. So SP is the return
@@ -635,17 +634,30 @@ rub:    jsr     r4, *$docol             # ( address -- address ), takes a charac
         .word   lit, span, at, zbran, 1f, lit, -1, lit, span, plusst
         .word   lit, 8, emit, space, lit, 8, emit
 1:      .word   exit
+# ( address count -- address count ): the line before still lies where it was typed, but for what is typed over its
+# beginning. Its rest is taken from there.
+recall: jsr     r4, *$docol
+1:      .word   over, tib_, equal, lit, span, at, lit, ntib, at, less, and, zbran, 2f
+        .word   over, lit, span, at, plus, cat, emit, lit, 1, lit, span, plusst, bran, 1b
+2:      .word   exit
+# ( key -- key ): the arrow up, which is ESC A or ESC [ A, is Ctrl-R; other keys of that kind are nothing.
+upward: jsr     r4, *$docol
+        .word   dup, lit, 27, equal, zbran, 2f, drop, key, dup, lit, 0133, equal, over, lit, 0117, equal, or, zbran, 1f
+        .word   drop, key
+1:      .word   lit, 0101, equal, lit, 18, and
+2:      .word   exit
         colon   expect, "EXPECT"        # ( address count -- )
         .word   lit, 0, lit, span, store
 1:      .word   lit, span, at, over, less, zbran, 9f
-        .word   key, dup, lit, 10, equal, lit, before, at, lit, 13, equal, and, over, lit, before, store
+        .word   key, upward, dup, lit, 10, equal, lit, before, at, lit, 13, equal, and, over, lit, before, store
         .word   zbran, 2f, drop, bran, 1b               # LF behind CR is no other line
 2:      .word   dup, lit, 13, equal, over, lit, 10, equal, or, zbran, 3f, drop, bran, 9f
 3:      .word   dup, lit, 8, equal, over, lit, 127, equal, or, zbran, 4f, drop, rub, bran, 1b
 4:      .word   dup, lit, 21, equal, zbran, 6f, drop    # Ctrl-U: the whole line
 5:      .word   lit, span, at, zbran, 1b, rub, bran, 5b
-6:      .word   dup, lit, 9, equal, zbran, 7f, drop, bl
-7:      .word   dup, bl, uless, zbran, 8f, drop, bran, 1b
+6:      .word   dup, lit, 18, equal, zbran, 7f, drop, recall, bran, 1b
+7:      .word   dup, lit, 9, equal, zbran, 10f, drop, bl
+10:     .word   dup, bl, uless, zbran, 8f, drop, bran, 1b
 8:      .word   dup, emit, lit, 2, pick, lit, span, at, plus, cstore, lit, 1, lit, span, plusst, bran, 1b
 9:      .word   ddrop, space, exit
         colon   query, "QUERY"

@@ -3,6 +3,10 @@ speaks the protocol of examples/lockstep. Each has the protocol's lines as calls
 
     new(kwords), disk(image), put(address, words), go(address), until(address), step(turns), drop()
 
+and for the cases of examples/CASES.md
+
+    regs(words), devices(switches, clock, keys, packs)
+
 `step` and `until` give the state: R0 to R5, the stack pointers of kernel and user mode, PC and the status word; and how it
 stands: ready, waiting, halted or between.
 """
@@ -16,6 +20,8 @@ import tty
 
 from p11_library import Machine
 
+NUMBERS = ("0", "1", "2", "3", "4", "5", "6", "10", "7", "11")
+INPUT_OUTPUT_PAGE = 0o760000
 NAMES = ["R0", "R1", "R2", "R3", "R4", "R5", "KSP", "USP", "PC", "PSW"]
 MOST = 100000000
 
@@ -44,6 +50,21 @@ class Ours:
 
     def go(self, address):
         self.machine.line(f"start {address:o}")
+
+    def regs(self, words):
+        for number, word in zip(NUMBERS, words):
+            self.machine.line(f"set {number} {word:o}")
+
+    def devices(self, switches, clock, keys, packs):
+        """Sets the switches and the clock's period, presses keys, and mounts packs: drive, whether it's protected, file."""
+        self.machine.line(f"switches {switches:o}")
+        for drive, protected, name in packs:
+            with open(name, "rb") as file:
+                self.machine.put(b"pack", file.read())
+            self.machine.line(f"mount {drive} pack {'ro' if protected else 'rw'}")
+        self.machine.line(f"clock {clock}")
+        if keys:
+            self.machine.line("key " + "".join(f"\\{key:03o}" for key in keys))
 
     def step(self, turns):
         while turns:
@@ -86,8 +107,11 @@ class Command:
         self.name = words[0]
 
     def ask(self, line):
-        self.process.stdin.write(line + "\n")
-        self.process.stdin.flush()
+        try:
+            self.process.stdin.write(line + "\n")
+            self.process.stdin.flush()
+        except BrokenPipeError:
+            raise ValueError(f"{self.name} has ended before: {line[:60]}") from None
         answer = self.process.stdout.readline().split()
         if not answer or answer[0] == "?":
             raise ValueError(f"{self.name} answers {' '.join(answer) or 'nothing'} to: {line[:60]}")
@@ -109,6 +133,17 @@ class Command:
     def go(self, address):
         self.ask(f"go {address:o}")
 
+    def regs(self, words):
+        self.ask("regs " + " ".join(f"{word:o}" for word in words))
+
+    def devices(self, switches, clock, keys, packs):
+        self.ask(f"switches {switches:o}")
+        for drive, protected, name in packs:
+            self.ask(f"pack {drive} {'ro' if protected else 'rw'} {name}")
+        self.ask(f"clock {clock}")
+        if keys:
+            self.ask("keys " + " ".join(map(str, keys)))
+
     def state_of(self, answer):
         if len(answer) != 11:
             raise ValueError(f"{self.name} answers {' '.join(answer)}, which isn't ten words and how it stands")
@@ -121,7 +156,10 @@ class Command:
         return self.state_of(self.ask(f"until {address:o}"))
 
     def drop(self):
-        self.process.stdin.close()
+        try:
+            self.process.stdin.close()
+        except BrokenPipeError:
+            pass
         self.process.wait()
 
 
@@ -151,6 +189,7 @@ class Simh:
         self.process = subprocess.Popen([self.program], stdin=theirs, stdout=theirs, stderr=theirs)
         os.close(theirs)
         self.ask("")
+        self.has_registers = False
         size = next(size for size in self.SIZES if size >= 2 * kwords + 8)
         for line in ("set cpu 11/40", f"set cpu {size}K", "set cpu noidle", "set tto 8b", "d tto time 63"):
             self.ask(line)
@@ -162,8 +201,27 @@ class Simh:
         self.ask(f"attach rk0 {path}")
 
     def put(self, address, words):
+        if address >= INPUT_OUTPUT_PAGE:
+            self.find_registers()
+            # its console has addresses of 22 bits
+            address += 0o17000000
         for at, word in enumerate(words):
             self.ask(f"d {address + 2 * at:o} {word:o}")
+
+    def find_registers(self):
+        """Its I/O page is there once an instruction was made."""
+        if not self.has_registers:
+            word = re.search(r"\t(\d+)", self.ask("e 1000"))[1]
+            for line in ("d 1000 240", "d pc 1000", "step 1", f"d 1000 {word}"):
+                self.ask(line)
+            self.has_registers = True
+
+    def regs(self, words):
+        for name, word in zip(NAMES, words):
+            self.ask(f"d {name} {word:o}")
+
+    def devices(self, switches, clock, keys, packs):
+        raise ValueError("SIMH's devices act in other turns, so cases with devices aren't compared with it")
 
     def go(self, address):
         for line in ("d psw 0", f"d pc {address:o}"):

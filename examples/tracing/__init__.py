@@ -1,0 +1,1 @@
+"""The parts of examples/why, which plays a script again and looks at its turns one by one."""
