@@ -9,7 +9,7 @@ async function main(file) {
   const page = await open(`${url.pathToFileURL(path.resolve(file)).href}?boot=monitor`, { downloads: folder });
   try {
     await page.until("document.querySelector('#screen').textContent.includes('MONITOR')", 60000);
-    await page.key('e', 69, { modifiers: 2 });
+    await page.type('\x05');
     await page.type('examine 1000\r');
     await page.until("document.querySelector('#screen').textContent.includes('EXAM 001000')", 60000);
     const record = (await downloaded(page, folder, '#record', 'session.p11')).toString('latin1');

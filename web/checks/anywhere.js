@@ -1,17 +1,18 @@
-// Any browser, with no debugging protocol: await inBrowser(command, url, server) opens checks/harness.html there and gives what
+// Any browser, with no debugging protocol: await inBrowser(command, { site, bench }) opens checks/harness.html there and gives what
 // it posts. command is that of the browser, as `chromium` or `firefox-esr`.
 'use strict';
 const fs = require('fs'), os = require('os'), path = require('path');
 const { spawn } = require('child_process');
-const { CHROMIUM } = require('./browser.js');
+const { isFirefox } = require('./browser.js');
+const { SWITCHES } = require('./chromium.js');
 const { serve } = require('./serve.js');
 
 function wordsFor(command, home, url) {
-  if (command.includes('firefox')) return ['--headless', '--no-remote', '--profile', home, url];
-  return [...CHROMIUM, `--user-data-dir=${home}`, '--window-size=1200,1100', url];
+  if (isFirefox(command)) return ['--headless', '--no-remote', '--profile', home, url];
+  return [...SWITCHES, `--user-data-dir=${home}`, '--window-size=1200,1100', url];
 }
 
-async function inBrowser(command, { site, bench, query, ms = 300000 }) {
+async function inBrowser(command, { site, bench, ms = 300000 }) {
   const home = fs.mkdtempSync(path.join(os.tmpdir(), 'p11-any-')), found = {};
   let child, end;
   const ended = new Promise((done, fail) => { end = { done, fail }; });
@@ -23,7 +24,7 @@ async function inBrowser(command, { site, bench, query, ms = 300000 }) {
   });
   const timer = setTimeout(() => end.fail(new Error(`${command} says nothing more: ${JSON.stringify(found)}`)), ms);
   try {
-    child = spawn(command, wordsFor(command, home, `http://127.0.0.1:${server.address().port}/tests/harness.html?do=${query}`), { stdio: 'ignore' });
+    child = spawn(command, wordsFor(command, home, `http://127.0.0.1:${server.address().port}/tests/harness.html`), { stdio: 'ignore' });
     child.on('error', end.fail);
     return await ended;
   } finally {

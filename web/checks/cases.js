@@ -4,13 +4,13 @@
 const assert = require('assert');
 
 async function cases({ page, url, say }) {
-  await page.send('Page.navigate', { url: `${url}tests/cases.html` });
+  await page.navigate(`${url}tests/cases.html`);
   await page.until("document.readyState === 'complete' && typeof playAll === 'function'");
-  const { count, lines, wrong } = await page.eval('playAll()');
+  const { count, different, lines, wrong } = await page.eval('playAll()');
   assert.deepEqual(wrong, [], 'sessions are answered otherwise');
-  const told = await page.eval("fetch('/page/words.js').then((it) => it.text())");
-  assert(told.includes(`${count.toLocaleString('en')} sessions of`), 'the page tells another number of sessions');
-  say(`${count} sessions, ${lines} lines: the same answers and typed bytes as ./p11`);
+  assert(different > 0, 'no session was played');
+  say(`${count} sessions, ${different} different ones, and ${lines} lines: the same answers and typed bytes as ./p11`);
+  return { sessions: different, lines };
 }
 
 module.exports = { cases };

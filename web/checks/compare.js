@@ -1,4 +1,4 @@
-// A record of the page beside the native program: typedIn(answers), play(record, { p11, folder }), same(page, ..).
+// A record of the page beside the native program: play(record, { p11, folder }), agree(record, typed, state, native).
 'use strict';
 const assert = require('assert'), fs = require('fs'), path = require('path');
 const { execFileSync } = require('child_process');
@@ -10,6 +10,13 @@ const STATE = ['regs', 'device', ...Array.from({ length: 56 }, (_, n) => `examin
 function typedIn(answers) {
   const text = [...answers.matchAll(/^TTY (.*)$/gm)].map(([, shown]) => shown).join('');
   return text.replace(/\\([0-7]{3})/g, (_, digits) => String.fromCharCode(parseInt(digits, 8)));
+}
+
+// A record without its first line, which has to be the remark that tells which program it is of.
+function withoutRemark(record) {
+  const [, lines] = /^# p11 [0-9.]+ in a page; (?:not )?proved; sources [0-9a-f]{12}; .+\n([^]*)$/.exec(record) ?? [];
+  assert(lines !== undefined && !lines.startsWith('#'), `the record doesn't tell once which program it is of: ${record.slice(0, 200)}`);
+  return lines;
 }
 
 // What ./p11 answers to a script, in a folder that has the script's files.
@@ -40,4 +47,4 @@ function agree(record, typed, state, native) {
   assert(answers.endsWith(state), 'registers, devices or memory differ');
 }
 
-module.exports = { play, typedIn, listen, heard, stateOf, agree };
+module.exports = { play, typedIn, withoutRemark, listen, heard, stateOf, agree };

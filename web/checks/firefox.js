@@ -1,22 +1,150 @@
-// node firefox.js PAGE P11 EXAMPLES COMMAND: the page in Firefox. The monitor is booted and talked to, the page is opened again and
-// the session goes on, and ./p11 plays its record. Exit status 1: something of that isn't so.
+// Firefox over WebDriver BiDi: const page = await openFirefox(command, { downloads }); see page.js. Wants a WebSocket, which
+// node has from 22 on, and Debian's package node-ws for earlier ones.
 'use strict';
-const assert = require('assert'), fs = require('fs'), os = require('os'), path = require('path');
-const { inBrowser } = require('./anywhere.js');
-const { play, typedIn } = require('./compare.js');
+const fs = require('fs'), os = require('os'), path = require('path');
+const { spawn } = require('child_process');
+const { Page } = require('./page.js');
 
-async function run([made, p11, examples, command]) {
-  const { agent, page } = await inBrowser(command, { site: path.join(made, 'site'), bench: examples, query: 'page' });
-  assert(page.isResumed, 'the session did not go on');
-  const folder = fs.mkdtempSync(path.join(os.tmpdir(), 'p11-web-'));
-  fs.symlinkSync(path.resolve(examples), path.join(folder, 'examples'));
-  const typed = typedIn(play(page.record, { p11: path.resolve(p11), folder }));
-  fs.rmSync(folder, { recursive: true });
-  assert(typed.endsWith('003000 000007\r\n.'), 'the record types something else');
-  console.log(`web/check: ${/Firefox\/\S+/.exec(agent)}: the monitor was booted and talked to, the page opened again, and ./p11 plays the record`);
+const SIZE = [1280, 1000];
+const CODES = { Enter: '\ue007', Backspace: '\ue003', Tab: '\ue004', End: '\ue010', ArrowUp: '\ue013', ArrowDown: '\ue015', F6: '\ue036' };
+const SHIFT = '\ue008', CONTROL = '\ue009';
+const EVENTS = { move: 'pointerMove', down: 'pointerDown', up: 'pointerUp' };
+
+// Files are saved unasked, and a page may read the clipboard without a question.
+const preferences = (downloads) => Object.entries({
+  'browser.download.folderList': 2,
+  'browser.download.dir': path.resolve(downloads),
+  'browser.download.alwaysOpenPanel': false,
+  'browser.helperApps.neverAsk.saveToDisk': 'application/octet-stream',
+  'dom.events.testing.asyncClipboard': true,
+}).map(([name, value]) => `user_pref(${JSON.stringify(name)}, ${JSON.stringify(value)});\n`).join('');
+
+class FirefoxPage extends Page {
+  constructor(child, home, socket) {
+    super();
+    Object.assign(this, { child, home, socket, number: 0, waiting: new Map() });
+    socket.onmessage = ({ data }) => this.take(JSON.parse(data));
+  }
+
+  take({ type, id, method, params, error, message, result }) {
+    if (type === 'event') {
+      if (method === 'log.entryAdded' && params.level === 'error') this.errors.push(params.text);
+      return;
+    }
+    const { done, fail } = this.waiting.get(id);
+    this.waiting.delete(id);
+    if (type === 'error') fail(new Error(`${error}: ${message}`)); else done(result);
+  }
+
+  send(method, params = {}) {
+    return new Promise((done, fail) => {
+      this.waiting.set(++this.number, { done, fail });
+      this.socket.send(JSON.stringify({ id: this.number, method, params }));
+    });
+  }
+
+  async replace() {
+    const was = this.context;
+    ({ context: this.context } = await this.send('browsingContext.create', { type: 'tab' }));
+    if (was) await this.send('browsingContext.close', { context: was });
+    await this.resize();
+  }
+
+  navigate(url) { return this.send('browsingContext.navigate', { context: this.context, url, wait: 'none' }); }
+
+  // The value comes as JSON, so that it is the same as Chromium's.
+  async eval(expression) {
+    const whole = `(async () => JSON.stringify(await (0, eval)(${JSON.stringify(expression)})))()`;
+    const { type, result, exceptionDetails } = await this.send('script.evaluate',
+      { expression: whole, target: { context: this.context }, awaitPromise: true });
+    if (type === 'exception') throw new Error(exceptionDetails.text);
+    return result.type === 'string' ? JSON.parse(result.value) : undefined;
+  }
+
+  press(strokes) {
+    const actions = strokes.flatMap(({ key, ctrl, shift }) => {
+      const held = [...(ctrl ? [CONTROL] : []), ...(shift ? [SHIFT] : [])], all = [...held, CODES[key] ?? key];
+      return [...all.map((value) => ({ type: 'keyDown', value })), ...[...all].reverse().map((value) => ({ type: 'keyUp', value }))];
+    });
+    return this.perform({ type: 'key', id: 'keyboard', actions });
+  }
+
+  mouse(steps) {
+    const actions = steps.map(({ at, x, y }) => ({ type: EVENTS[at], ...(at === 'move' ? { x, y } : { button: 0 }) }));
+    return this.perform({ type: 'pointer', id: 'mouse', parameters: { pointerType: 'mouse' }, actions });
+  }
+
+  perform(actions) { return this.send('input.performActions', { context: this.context, actions: [actions] }); }
+
+  // WebDriver drops no files: the page gets the event that a drop is.
+  async drop(file, selector = '#screen') {
+    const bytes = fs.readFileSync(file).toString('base64'), name = JSON.stringify(path.basename(file));
+    await this.eval(`{ const dataTransfer = new DataTransfer();
+      dataTransfer.items.add(new File([Uint8Array.from(atob('${bytes}'), (c) => c.charCodeAt(0))], ${name}));
+      const drop = new DragEvent('drop', { dataTransfer, bubbles: true, cancelable: true });
+      document.querySelector(${JSON.stringify(selector)}).dispatchEvent(drop); }`);
+  }
+
+  resize(width = SIZE[0], height = SIZE[1]) {
+    return this.send('browsingContext.setViewport', { context: this.context, viewport: { width, height } });
+  }
+
+  async capture() {
+    const { data } = await this.send('browsingContext.captureScreenshot', { context: this.context, origin: 'document' });
+    return Buffer.from(data, 'base64');
+  }
+
+  async before(source) {
+    const { script } = await this.send('script.addPreloadScript', { functionDeclaration: `() => { ${source} }` });
+    return () => this.send('script.removePreloadScript', { script });
+  }
+
+  // WebDriver tells no names, but finds what has one.
+  async named(roles, names) {
+    const find = async (value) => (await this.send('browsingContext.locateNodes',
+      { context: this.context, locator: { type: 'accessibility', value } })).nodes.length;
+    const told = { nameless: [], lacking: [], count: 0 };
+    for (const role of roles) {
+      told.count += await find({ role });
+      if (await find({ role, name: '' }) > 0) told.nameless.push(role);
+    }
+    for (const name of names) if (await find({ name }) === 0) told.lacking.push(name);
+    return told;
+  }
+
+  async close() {
+    await this.send('browser.close').catch(() => {});
+    if (this.child.exitCode === null) await new Promise((done) => { this.child.once('exit', done); });
+    fs.rmSync(this.home, { recursive: true, force: true, maxRetries: 5 });
+  }
 }
 
-run(process.argv.slice(2)).catch((error) => {
-  console.error(`web/check: ${error.stack}`);
-  process.exit(1);
-});
+// The address at which Firefox listens, which it tells on standard error.
+function addressOf(child) {
+  let told = '';
+  return new Promise((done, fail) => {
+    child.stderr.on('data', (chunk) => {
+      told += chunk;
+      const found = /WebDriver BiDi listening on (ws:\S+)/.exec(told);
+      if (found) done(found[1]);
+    });
+    child.on('exit', () => fail(new Error(`Firefox has ended: ${told.slice(-1000)}`)));
+  });
+}
+
+async function openFirefox(command, { downloads }) {
+  const home = fs.mkdtempSync(path.join(os.tmpdir(), 'p11-browser-'));
+  fs.writeFileSync(path.join(home, 'user.js'), preferences(downloads));
+  const words = ['--headless', '--no-remote', '--profile', home, '--remote-debugging-port', '0', 'about:blank'];
+  const child = spawn(command, words, { stdio: ['ignore', 'ignore', 'pipe'] });
+  const Socket = globalThis.WebSocket ?? require('ws'), socket = new Socket(`${await addressOf(child)}/session`);
+  const page = new FirefoxPage(child, home, socket);
+  await new Promise((done, fail) => Object.assign(socket, { onopen: done, onerror: fail }));
+  const { capabilities } = await page.send('session.new', { capabilities: {} });
+  page.product = `Firefox ${capabilities.browserVersion}`;
+  await page.send('session.subscribe', { events: ['log.entryAdded'] });
+  await page.replace();
+  return page;
+}
+
+module.exports = { openFirefox };

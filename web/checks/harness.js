@@ -96,32 +96,14 @@ async function keys() {
 
 const median = (times) => times.toSorted((a, b) => a - b)[Math.floor(times.length / 2)];
 
-// The page as a person has it: the monitor is booted and talked to, and the session goes on when the page is opened again.
-async function page() {
-  let it = await opened();
-  it.document.querySelector('[data-boot=monitor]').click();
-  await until(() => it.app.view.text().includes('MONITOR'));
-  for (const key of ['d', ' ', '3', '0', '0', '0', ' ', '7', 'Enter', 'e', ' ', '3', '0', '0', '0', 'Enter']) press(it, key);
-  await until(() => it.app.view.text().includes('003000 000007'));
-  await sleep(700);
-  it = await opened();
-  await until(() => it.app.view.text().includes('The session goes on'));
-  const record = await it.app.link.ask('record');
-  return { isResumed: it.app.view.text().includes('003000 000007'), record };
-}
-
 (async () => {
   await post({ agent: navigator.userAgent });
   try {
-    const wanted = new URLSearchParams(location.search).get('do');
-    if (wanted === 'page') await post({ page: await page() });
-    else {
-      const module = await bytesAt('/p11.wasm');
-      for (const name of ['branch', 'sort', 'sieve', 'interpreter']) await post({ rate: await rate(module, name) });
-      await post({ opening: await opening() });
-      await post({ packs: await packs() });
-      await post({ keys: await keys() });
-    }
+    const module = await bytesAt('/p11.wasm');
+    for (const name of ['branch', 'sort', 'sieve', 'interpreter']) await post({ rate: await rate(module, name) });
+    await post({ opening: await opening() });
+    await post({ packs: await packs() });
+    await post({ keys: await keys() });
   } catch (error) {
     const shown = document.querySelector('#frame').contentWindow.eval('app.view.text().slice(-300)');
     await post({ error: `${error.message} ${error.stack}; the page shows ${shown}` });

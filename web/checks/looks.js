@@ -8,60 +8,55 @@ const SIZES = [[360, 740], [800, 1000], [1600, 1000]];
 async function looks({ page, say }) {
   const folder = process.env.SHOTS;
   for (const [width, height] of SIZES) {
-    await page.send('Emulation.setDeviceMetricsOverride', { width, height, deviceScaleFactor: 1, mobile: width < 500 });
+    await page.resize(width, height);
     const wide = await page.eval('document.documentElement.scrollWidth');
     assert(wide <= width, `at ${width} pixels the page is ${wide} wide`);
-    for (const face of folder ? ['light', 'dark'] : []) await page.shot(path.join(folder, `p11-${width}-${face}.png`), { width, height, face });
+    for (const face of folder ? ['light', 'dark'] : []) {
+      await page.shot(path.join(folder, `${page.product.split(' ')[0]}-${width}-${face}.png`), { width, height, face });
+    }
   }
-  await page.send('Emulation.clearDeviceMetricsOverride');
+  await page.resize();
   say(`nothing is cut off at ${SIZES.map(([width]) => width).join(', ')} pixels`);
 }
 
 // Each control and lamp, as a screen reader has it, has a name.
 async function names({ page, say }) {
   await page.eval('app.sessions.fresh(28)');
-  await page.send('Accessibility.enable');
-  const { nodes } = await page.send('Accessibility.getFullAXTree');
-  await page.send('Accessibility.disable');
-  const wanted = ['button', 'switch', 'combobox', 'textbox', 'image', 'img'];
-  const controls = nodes.filter((node) => !node.ignored && wanted.includes(node.role?.value));
-  const nameless = controls.filter((node) => !node.name?.value);
-  assert.deepEqual(nameless.map((node) => node.role.value), [], 'controls without a name');
-  const all = controls.map((node) => node.name.value);
-  for (const name of ['Switch 0', 'Switch 17', 'HALT', 'RUN lamp, off', 'CONSOLE lamp, on', 'Address lamps 000000', 'Mount a pack on drive 7']) {
-    assert(all.includes(name), `nothing has the name ${name}; there are ${all.join(', ')}`);
-  }
-  say(`${controls.length} controls and lamps have names`);
+  const roles = ['button', 'switch', 'combobox', 'textbox', 'image', 'img'];
+  const wanted = ['Switch 0', 'Switch 17', 'HALT', 'RUN lamp, off', 'CONSOLE lamp, on', 'Address lamps 000000', 'Mount a pack on drive 7'];
+  const { nameless, lacking, count } = await page.named(roles, wanted);
+  assert.deepEqual(nameless, [], 'controls without a name');
+  assert.deepEqual(lacking, [], 'nothing has these names');
+  say(`${count} controls and lamps have names`);
 }
 
 // Without the mouse: a program is toggled in by digits at the switches, the keys of the panel are reached by Tab.
 async function keyboard({ page, say }) {
   await page.eval('app.sessions.fresh(28)');
   const focus = (selector) => page.eval(`document.activeElement?.matches(${JSON.stringify(selector)}) ?? false`);
-  for (let n = 0; n < 12 && !(await focus('.lever')); n++) await page.key('F6', 117);
+  for (let n = 0; n < 12 && !(await focus('.lever')); n++) await page.key('F6');
   assert(await focus('.lever'), 'F6 never comes to the switches');
   const press = async (key) => {
     for (let n = 0; n < 8 && !(await focus(`[data-key=${key}]`)); n++) await page.type('\t');
     assert(await focus(`[data-key=${key}]`), `Tab never comes to ${key}`);
-    await page.key(' ', 32, { text: ' ' });
+    await page.type(' ');
     await page.until('app.link.asked.size === 0');
-    for (let n = 0; n < 8 && !(await focus('.lever')); n++) await page.key('Tab', 9, { modifiers: 8 });
+    for (let n = 0; n < 8 && !(await focus('.lever')); n++) await page.key('Tab', { shift: true });
   };
-  const digits = async (text) => { for (const c of text) await page.key(c, c.charCodeAt(0), { text: c }); };
-  await digits('001000');
+  await page.type('001000');
   await press('load');
-  for (const word of ['012700', '000007', '000000']) { await digits(word); await press('dep'); }
-  await digits('001000');
+  for (const word of ['012700', '000007', '000000']) { await page.type(word); await press('dep'); }
+  await page.type('001000');
   await press('load');
   await press('start');
   await page.until("app.view.text().includes('STOP halt 2 001006')");
-  for (let n = 0; n < 12 && !(await focus('#keys')); n++) await page.key('F6', 117);
+  for (let n = 0; n < 12 && !(await focus('#keys')); n++) await page.key('F6');
   await page.type('regs\r');
   await page.until("app.view.text().includes('REGS 000007')");
-  await page.key('ArrowUp', 38);
+  await page.key('ArrowUp');
   await page.type('\r');
   await page.until("app.view.text().split('REGS 000007').length === 3");
-  await page.key('Tab', 9, { modifiers: 8 });
+  await page.key('Tab', { shift: true });
   assert(!(await focus('#keys')), 'Shift-Tab does not leave the terminal');
   say('a program was toggled in and run by the keyboard alone');
 }

@@ -25,7 +25,7 @@ const mebibytes = (bytes) => `${Math.round(bytes / 1048576)} MiB`;
 async function run([made, p11, bench, ...commands]) {
   const browsers = [];
   for (const command of commands) {
-    const found = await inBrowser(command, { site: path.join(made, 'site'), bench, query: 'rates' });
+    const found = await inBrowser(command, { site: path.join(made, 'site'), bench });
     for (const { name, isSame } of found.rates) if (!isSame) throw new Error(`${command} answers ${name} otherwise`);
     browsers.push(found);
   }

@@ -1,5 +1,6 @@
-// node run.js PAGE P11 TERMINAL EXAMPLES CASES: all checks of the page in a real browser. PAGE is what web/build made (site/ and
-// p11.html); P11 and TERMINAL are the native programs, CASES is what examples/c/cases wrote. Exit status 1: a check failed.
+// node run.js PAGE P11 TERMINAL EXAMPLES CASES SUM RECORD COMMAND..: all checks of the page in each of the browsers (COMMAND).
+// PAGE is what web/build made (site/ and p11.html), SUM one word for it (web/checked); P11 and TERMINAL are the native programs,
+// CASES is what examples/c/cases wrote. What passed is written to RECORD, for web/checked. Exit status 1: a check failed.
 'use strict';
 const fs = require('fs'), os = require('os'), path = require('path');
 const { open } = require('./browser.js');
@@ -11,33 +12,52 @@ const { looks, names, keyboard } = require('./looks.js');
 const { cases } = require('./cases.js');
 const { plays, link, pace, sizes, copies, single } = require('./ways.js');
 
-async function run([made, p11, terminal, examples, casesFile]) {
-  const folder = fs.mkdtempSync(path.join(os.tmpdir(), 'p11-web-'));
+// All checks in one browser: its name with its version, how many different sessions it played, and how many lines they have.
+async function checked(command, { made, p11, terminal, examples, casesFile }) {
+  const folder = fs.mkdtempSync(path.join(os.tmpdir(), 'p11-web-')), began = Date.now();
   const server = await serve({ '/': path.join(made, 'site'), '/tests/': __dirname, '/data/': path.dirname(casesFile) });
   const url = `http://127.0.0.1:${server.address().port}/`;
-  const page = await open(url, { downloads: folder });
+  const page = await open(url, { downloads: folder, command });
   const native = { p11: path.resolve(p11), terminal: path.resolve(terminal), folder };
-  const say = (text) => console.log(`web/check: ${text}`);
+  const say = (text) => console.log(`web/check: ${page.product}: ${text}`);
   const all = { page, url, made, examples: path.resolve(examples), native, say };
-  console.log(`web/check: ${page.product}`);
+  let test = evening;
+  const run = (next, more) => {
+    test = next;
+    return next({ ...all, ...more });
+  };
   try {
-    const { record, answers } = await evening(all);
-    await plays({ ...all, record, answers });
-    for (const check of [words, badFiles, keyboard, names, looks, pace, sizes, copies, link, lacking, cases, single]) await check(all);
+    await run(plays, await run(evening));
+    for (const next of [words, badFiles, keyboard, names, looks, pace, sizes, copies, link, lacking]) await run(next);
+    const told = await run(cases);
+    await run(single);
     await page.goTo(url);
-    await trap(all);
+    await run(trap);
     if (page.errors.length > 0) throw new Error(`errors of the page: ${page.errors.join(' | ')}`);
+    say(`all of it in ${Math.round((Date.now() - began) / 1000)} s`);
+    return { browser: page.product, ...told };
   } catch (error) {
-    console.error(await page.eval("app.view.text().slice(-1500) + document.querySelector('#note').textContent").catch(() => ''));
-    throw error;
+    const shown = await page.eval("app.view.text().slice(-1500) + document.querySelector('#note').textContent").catch(() => '');
+    console.error(`${shown}\n${error.stack}`);
+    throw new Error(`${page.product}: ${test.name}: ${error.message}`);
   } finally {
     await page.close();
     server.close();
+    server.closeAllConnections();
     fs.rmSync(folder, { recursive: true, force: true });
   }
 }
 
+async function run([made, p11, terminal, examples, casesFile, sum, record, ...commands]) {
+  const passed = [];
+  for (const command of commands) passed.push(await checked(command, { made, p11, terminal, examples, casesFile }));
+  const [{ sessions, lines }] = passed;
+  for (const it of passed) if (it.sessions !== sessions || it.lines !== lines) throw new Error(`${it.browser} played ${it.sessions} sessions`);
+  const told = { page: sum, sessions, lines, records: passed.length, browsers: passed.map(({ browser }) => browser) };
+  fs.writeFileSync(record, JSON.stringify(told, null, 1) + '\n');
+}
+
 run(process.argv.slice(2)).catch((error) => {
-  console.error(`web/check: ${error.stack}`);
+  console.error(`web/check: FAILED: ${error.message.replace(/\s+/g, ' ')}`);
   process.exit(1);
 });

@@ -10,7 +10,7 @@ function serve(table, report = () => {}) {
   const server = http.createServer((request, answer) => {
     if (request.method === 'POST') { take(request, answer, report); return; }
     const { pathname } = new URL(request.url, 'http://here');
-    const begin = Object.keys(table).toSorted((a, b) => b.length - a.length).find((it) => pathname.startsWith(it));
+    const begin = Object.keys(table).sort((a, b) => b.length - a.length).find((it) => pathname.startsWith(it));
     const folder = path.resolve(table[begin]), name = path.join(folder, decodeURIComponent(pathname.slice(begin.length)) || 'index.html');
     if (!name.startsWith(folder) || !fs.existsSync(name)) { answer.writeHead(404); answer.end(); return; }
     answer.writeHead(200, { 'content-type': TYPES[path.extname(name)] ?? 'application/octet-stream' });

@@ -15,6 +15,7 @@ class Engine {
   constructor(post) {
     this.post = post;
     this.session = null;
+    this.isLost = false;       // whether the module has trapped under this machine
     this.kwords = 28;
     this.slice = 20000;        // turns of the next slice
     this.hertz = 0;            // ticks of the line clock in a second of the wall, or 0
@@ -28,24 +29,25 @@ class Engine {
     this.at = { lamps: 0, journal: 0, tick: 0, budget: 0, rate: 0 };
     this.sent = { lines: 0, steps: 0, turns: 0 };
     this.channel = new MessageChannel();
-    this.channel.port1.onmessage = () => { this.isAwake = false; this.guard(() => this.go()); };
+    this.channel.port1.onmessage = () => {
+      this.isAwake = false;
+      try { this.go(); } catch (error) { this.lose(error); }
+    };
   }
 
-  // A trap leaves no machine that can be trusted; what was done so far can still be had as a record.
-  guard(work) {
-    try {
-      return work();
-    } catch (error) {
-      if (!(error instanceof WebAssembly.RuntimeError) && !(error instanceof RangeError)) throw error;
-      this.session.run = null;
-      this.script = [];
-      this.post({ event: 'lost', why: String(error.message ?? error) });
-      throw error;
-    }
+  // A trap leaves no machine that can be trusted; it is told once, and what was done so far can still be had as a record.
+  // What isn't a trap is thrown again.
+  lose(error) {
+    if (!isTrap(error)) throw error;
+    if (this.isLost || !this.session) return;
+    this.isLost = true;
+    this.session.run = null;
+    this.script = [];
+    this.post({ event: 'lost', why: String(error.message ?? error) });
   }
 
   wake() {
-    if (this.isAwake || !(this.session?.run || this.scriptDone)) return;
+    if (this.isAwake || this.isLost || !(this.session?.run || this.scriptDone)) return;
     this.isAwake = true;
     this.channel.port2.postMessage(0);
   }
@@ -57,7 +59,7 @@ class Engine {
   }
 
   go() {
-    if (!this.session.run && !this.playOn()) return;
+    if (this.isLost || (!this.session.run && !this.playOn())) return;
     if (!this.session.run) { this.wake(); return; }
     const now = performance.now();
     this.tick(now);
@@ -73,7 +75,7 @@ class Engine {
     const isAsleep = isIdle && !stop && this.session.keys.length === 0;
     if (stop) this.ended(stop);
     else if (isAsleep || now - this.at.lamps >= LAMPS_MS) this.lit(now, isAsleep);
-    this.journal(stop !== null);
+    this.journal(stop !== null || isAsleep);
     if (!isAsleep) this.wake();
     else if (this.hertz > 0) this.wakeIn(Math.max(1, this.at.tick - performance.now()));
   }
@@ -129,7 +131,8 @@ class Engine {
     this.at.rate = turns;
   }
 
-  // -- what the record has gained, for whoever keeps it: at once where something was done, else a few times a second
+  // -- what the record has gained, for whoever keeps it: at once where something was done or the machine waits, else a few times
+  // a second
   journal(isNow = true) {
     const { record, steps, turns } = this.session, now = performance.now();
     if (this.isQuiet || (!isNow && record.length === this.sent.lines && now - this.at.journal < JOURNAL_MS)) return;
@@ -167,15 +170,18 @@ class Engine {
   }
 }
 
+// A trap of the module, or a stack that is used up, which Firefox calls an InternalError.
+const isTrap = (error) => error instanceof WebAssembly.RuntimeError || error instanceof RangeError || error?.name === 'InternalError';
+
 // How many turns the next slice has, where one of so many took so long: twice as many at most, or half.
 function nextSlice(turns, took) {
   const times = Math.max(0.5, Math.min(2, SLICE_MS / Math.max(took, 0.05)));
   return Math.round(Math.max(1000, Math.min(5e6, turns * times)));
 }
 
-// The bytes that a line `load` was given, where it refused them as a tape.
+// The bytes that a line `load` was given, where it refused them as a tape, or found no word and no address for start in them.
 function tapeOf(session, line, answer) {
-  return answer.startsWith('? 9 ') ? session.p11.file(line.trim().split(/[ \t]+/)[1]) : undefined;
+  return answer.startsWith('? 9 ') || answer === 'TAPE 0 none\n' ? session.p11.file(line.trim().split(/[ \t]+/)[1]) : undefined;
 }
 
 // What can be called. Each takes its arguments as an object.
@@ -186,6 +192,7 @@ const CALLS = {
     // A module that has trapped isn't used again: each machine gets an instance of its own.
     const instance = await WebAssembly.instantiate(engine.compiled, {});
     engine.session = new Session(new P11(instance.exports, kwords, 1024));
+    engine.isLost = false;
     engine.session.put('/dev/null', new Uint8Array(0));
     engine.sent = { lines: 0, steps: 0, turns: 0 };
     engine.at.rate = 0;
@@ -255,11 +262,16 @@ const CALLS = {
   },
 };
 
+// What can be asked of a machine that is lost: what was done, and another machine.
+const OF_THE_LOST = ['open', 'record', 'files', 'clock', 'pace'];
+
 const engine = new Engine((message) => postMessage(message));
 onmessage = async ({ data: { id, call, args } }) => {
   try {
-    postMessage({ id, result: await engine.guard(() => CALLS[call](engine, args ?? {})) });
+    if (engine.isLost && !OF_THE_LOST.includes(call)) throw new Error('the machine is lost');
+    postMessage({ id, result: await CALLS[call](engine, args ?? {}) });
   } catch (error) {
+    if (isTrap(error)) engine.lose(error);
     postMessage({ id, error: String(error.message ?? error) });
   }
 };

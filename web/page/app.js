@@ -147,7 +147,8 @@ class App {
     };
     $('#theme').onclick = () => setFace(nextFace());
     setFace(keptFace());
-    $('#agreed').textContent = globalThis.P11_AGREED ?? '';
+    $('#proved').textContent = globalThis.P11_PROVED;
+    $('#checked').textContent = globalThis.P11_CHECKED;
   }
 
   paint() {

@@ -127,12 +127,13 @@ class Console {
     else this.answered(line, answer, tape);
   }
 
-  // An answer, and behind a refusal its reason.
+  // An answer, and behind a refusal its reason, and behind a tape without a block that it has none.
   answered(line, answer, tape) {
     if (this.isBrief && answer === 'OK\n') return;
     if (answer.startsWith('STOP')) this.endLine();
     this.say(answer);
-    if (answer.startsWith('?')) this.say(`  ${reasonOf(line, answer, tape)}.\n`);
+    const more = answer.startsWith('?') ? reasonOf(line, answer, tape) : tapeWarning(tape);
+    if (more) this.say(`  ${more}.\n`);
   }
 
   // A line that something in the page asks for: it is shown as if it had been typed, unless it is done silently or a run

@@ -41,7 +41,7 @@ function misfitOf(line) {
 const shown = (word) => word.replace(/[^ -~]/g, '?');
 const formOf = (verb) => (verb.form === '' ? verb.name : `${verb.name} ${verb.form}`);
 
-// Why a line was refused with this answer. tape: the bytes that load was given, where it refused them.
+// Why a line was refused with this answer. tape: the bytes that load was given.
 function reasonOf(line, answer, tape) {
   const fault = answer.trim().split(' ')[2], [name, ...words] = wordsOf(line);
   switch (fault) {
@@ -56,6 +56,12 @@ function reasonOf(line, answer, tape) {
 function tapeReason(tape) {
   const fault = tape && tapeFault(tape);
   return fault ? `${WORDS.tape.at}${fault.at}${WORDS.tape[fault.kind]}` : WORDS.tape.none;
+}
+
+// What there is to say of a tape that was loaded: that it has no block; null where it has one.
+function tapeWarning(tape) {
+  if (!tape || tape.some((byte) => byte !== 0)) return null;
+  return tape.length === 0 ? WORDS.tape.Empty : WORDS.tape.Zeros;
 }
 
 // The first fault of an absolute tape, and its byte, or null: zeros, blocks with zeros behind each, and perhaps a last
@@ -84,7 +90,7 @@ function tapeFault(tape) {
 function helpOn(name) {
   const verb = verbNamed(name);
   if (!verb) return WORDS.verbs.map((it) => `${formOf(it).padEnd(WORDS.column)}${it.deed}\n`).join('') + WORDS.list;
-  const [deed, wanted, more, example, answer, end] = WORDS.one;
-  const parts = verb.wanted.map((part) => wanted + WORDS.parts[part]).join('') + (verb.more ? more + WORDS.parts[verb.more[0]] : '');
-  return formOf(verb) + deed + verb.deed + parts + example + verb.example + answer + verb.answer + end;
+  const { one } = WORDS, more = verb.more ? one.more + WORDS.parts[verb.more[0]] : '';
+  const parts = verb.wanted.map((part) => one.part + WORDS.parts[part]).join('') + more;
+  return formOf(verb) + one.deed + verb.deed + parts + one.example + verb.example + one.answer + verb.answer + one.end;
 }

@@ -102,9 +102,10 @@ class Sessions {
 
   // The module has trapped. What was done is offered as a record, and a new machine takes its place.
   async lost(why) {
-    const { app } = this, record = await app.link.ask('record').catch(() => null);
-    app.say(`\nThe machine is lost: ${why}.\n`);
+    const { app } = this;
     app.console.runs(false);
+    const record = await app.link.ask('record').catch(() => null);
+    app.say(`\nThe machine is lost: ${why}.\n`);
     await this.fresh();
     if (record === null) return;
     app.offer(`The machine before was lost (${why}); its record has what was done.`, [

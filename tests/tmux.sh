@@ -1,0 +1,86 @@
+# What tests/terminal and soak/terminal share: a shell in a real terminal, which tmux gives, whose folder is $work, and keys and
+# looks at its screen. To be sourced by bash, with $name, the script's name, and $top, the repository.
+
+for tool in tmux pgrep; do
+    command -v "$tool" >/dev/null || { echo "there is no $tool"; exit 77; }
+done
+work=$(mktemp -d)
+session=p11-$$
+
+say() { echo "$name: $1"; }
+fail() {
+    say "WRONG: $1"
+    show >&2
+    exit 1
+}
+keys() { tmux send-keys -t "$session" "$@"; }
+text() { tmux send-keys -t "$session" -l "$1"; }
+line() { text "$1" && keys Enter; }
+show() { tmux capture-pane -p -t "$session" | sed -e 's/ *$//' | sed -e '/^$/d'; }
+
+# On how many lines of the screen, and of those that went out at its top, a text stands.
+count() { tmux capture-pane -p -S - -t "$session" | grep -cF -- "$1" || true; }
+
+# Waits until a command ends well, for so many tenths of a second at most.
+wait_until() {
+    local tries
+    for tries in $(seq 1 "$1"); do
+        if "${@:2}"; then return 0; fi
+        sleep 0.1
+    done
+    return 1
+}
+
+shows() { show | grep -qF -- "$1"; }
+shows_more() { [ "$(count "$1")" -gt "$2" ]; }
+
+# Waits until the screen shows a text, for 20 seconds at most.
+wait_for() { wait_until 200 shows "$1" || fail "the screen doesn't show: $1"; }
+
+# Does something, and waits until a text stands on one more line than before: one that stood there doesn't count.
+for_another() {
+    local text=$1 before
+    before=$(count "$text")
+    shift
+    "$@"
+    wait_until "${PATIENCE:-200}" shows_more "$text" "$before" || fail "the screen doesn't show once more: $text"
+}
+
+# Ends the session that is left, and what was made.
+clean() {
+    tmux kill-session -t "$session" 2>/dev/null || true
+    rm -rf "$work"
+}
+
+# Whether the host's terminal is set as it was.
+is_restored() {
+    keys C-u
+    line "clear; stty -a | grep -v rows >after; echo looked''-$1"
+    wait_for "looked-$1"
+    cmp -s "$work/before" "$work/after" || fail "the host's terminal isn't as before, after $1"
+    say "$1: the host's terminal is as before"
+}
+
+# Sits down at the machine, in a terminal that is cleared first.
+start() { line "clear; '$top/terminal' $1"; }
+
+# Leaves: by a second quit where the first one tells of a pack that no file has.
+left_or_asked() { show | grep -qE '^host>|A second quit leaves'; }
+leave() {
+    line quit
+    wait_until 200 left_or_asked || fail "quit isn't answered"
+    if show | grep -q '^host>'; then return 0; fi
+    line quit
+    wait_for "host>"
+}
+
+# The processes of the launcher, and of the program that it runs.
+launcher_pid() { pgrep -P "$(tmux display-message -p -t "$session" '#{pane_pid}')" -f terminal | head -1; }
+program_pid() { pgrep -P "$(launcher_pid)" | head -1; }
+
+trap clean EXIT
+"$top/build" p11_terminal >/dev/null || exit 4
+tmux new-session -d -s "$session" -x 100 -y 40 -c "$work" 'bash --norc --noprofile'
+line "PS1='host> '"
+line "stty -a | grep -v rows >before; echo looked''-before"
+wait_for "looked-before"
