@@ -1,5 +1,5 @@
 -- What the host gives and takes.
-use Rattle.std.specs.Prelude.{Vec, ◌≡◌, ℕ, List, Option, Some, None, Result, Ok, Err}
+use Rattle.std.specs.Prelude.{Vec, ◌≡◌, ℕ, Bool, true, List, Option, Some, None, Result, Ok, Err, if◌then◌else◌}
 use Rattle.p11_lines.specs.declared.answer.Answer.TheVariants as answers
 use Rattle.p11_lines.specs.declared.fault.Fault.TheVariants.{StoreFault}
 use Rattle.p11_lines.specs.declared.line.Line.{Line}
@@ -9,11 +9,17 @@ use Rattle.p11_panel.specs.declared.command.Command.{Command}
 use Rattle.p11_panel.specs.declared.command.Command.TheVariants as commands
 use Rattle.p11_panel.specs.Session.{fault_of}
 use Rattle.p11_store.specs.declared.store.StoreError.{StoreError}
+use Rattle.p11_console.specs.Manner.{is_batch}
+use Rattle.p11_console.specs.Said.{Says}
+use Rattle.p11_console.specs.Saved.{saved_by}
 use Rattle.p11_console.specs.State.{ConsoleState}
 use Rattle.p11_console.specs.Steps.{Completes}
 use Rattle.p11_console.specs.Tries.{Acts, refused}
+use Rattle.p11_console.specs.declared.trouble.Trouble.{Trouble}
+use Rattle.p11_console.specs.declared.trouble.PutFault.{PutFault}
+use Rattle.p11_console.specs.declared.trouble.PutFault.TheVariants.{There, Refused}
 use Rattle.p11_console.specs.declared.way.Way.{Way}
-use Rattle.p11_console.specs.declared.way.Way.TheVariants.{Free, Naming, Telling, Fetching, Putting, Opening}
+use Rattle.p11_console.specs.declared.way.Way.TheVariants.{Free, Naming, Telling, Fetching, Putting, Asking, Opening}
 
 -- the file that a line names
 unfoldable pub file_name : {A : Type 0} → Line A → Option (List ℕ)
@@ -25,13 +31,13 @@ file_name _ = None
 -- the name of the file that is wanted, or that the bytes are for
 abbrev pub wanted : {A : Type 0} → Way A → Option (List ℕ)
 wanted (Fetching line text) = file_name line
-wanted (Putting line image text) = file_name line
+wanted (Putting line image text is_agreed) = file_name line
 wanted (Opening name) = Some name
 wanted _ = None
 
 -- the bytes that a file is to have
 abbrev pub image_in : {A : Type 0} → Way A → Option (List ℕ)
-image_in (Putting line image text) = Some image
+image_in (Putting line image text is_agreed) = Some image
 image_in _ = None
 
 -- the command of a line on the bytes of its file
@@ -40,10 +46,15 @@ file_command (lines.Mount drive name protect) bytes = Some (commands.Mount drive
 file_command (lines.Load name) bytes = Some (commands.Load bytes)
 file_command _ bytes = None
 
+-- a file that is there may be written over
+abbrev pub may_replace : {A : Type 0} → Way A → Bool
+may_replace (Putting line image text is_agreed) = is_agreed
+may_replace _ = true
+
 -- what the host gives, as bytes
-abbrev pub file_of : {A : Type 0} → Result (Vec ℕ A) StoreError → Result (List ℕ) StoreError
+abbrev pub file_of : {A : Type 0} → Result (Vec ℕ A) Trouble → Result (List ℕ) StoreError
 file_of (Ok bytes) = Ok bytes.items
-file_of (Err error) = Err error
+file_of (Err trouble) = Err trouble.error
 
 abbrev pub ActsOn : {A : Type 0} → Option (Command A) → List ℕ → State → Way A → State → Type 0
 ActsOn (Some command) text s way s' = Acts command text s way s'
@@ -54,10 +65,14 @@ unfoldable pub GivesLine : {A : Type 0} → Result (List ℕ) StoreError → Lin
 GivesLine (Ok bytes) line text s way s' = ActsOn (file_command line bytes) text s way s'
 GivesLine (Err error) line text s way s' = (way ≡ refused (answers.Refused (fault_of error))) × (s' ≡ s)
 
--- the lines of a script come next, or `do` is refused
+-- a script that is all and can't be had has no answer
+abbrev pub way_missing : {A : Type 0} → Bool → StoreError → Way A
+way_missing is_all error = if is_all then Free else refused (answers.Refused (fault_of error))
+
+-- the lines of a script come next, or it can't be had
 abbrev pub GivesScript : {A : Type 0} → Result (List ℕ) StoreError → ConsoleState A → ConsoleState A → Type 0
 GivesScript (Ok bytes) c c' = c' ≡ record c { script = bytes; way = Free }
-GivesScript (Err error) c c' = c' ≡ record c { way = refused (answers.Refused (fault_of error)) }
+GivesScript (Err error) c c' = c' ≡ record c { lacks_script = true; way = way_missing (is_batch c.settings.manner) error }
 
 abbrev pub Gives : {A : Type 0} → Result (List ℕ) StoreError → Way A → ConsoleState A → ConsoleState A → Type 0
 Gives file (Fetching line text) c c' =
@@ -65,13 +80,16 @@ Gives file (Fetching line text) c c' =
 Gives file (Opening name) c c' = GivesScript file c c'
 Gives file way c c' = c' ≡ c
 
--- the file was written, or not
-abbrev pub way_put : {A : Type 0} → Result (Unit {0}) StoreError → List ℕ → Way A
-way_put (Ok done) text = Telling answers.Done text tt
-way_put (Err error) text = refused (answers.Refused StoreFault)
+-- the file was written and the line is done; or one is there, and a person is asked; or it can't be written
+abbrev pub TakesPut : {A : Type 0} → Result (Unit {0}) PutFault → Line A → List ℕ → List ℕ → ConsoleState A → ConsoleState A → Type 0
+TakesPut (Ok done) line image text c c' =
+    c' ≡ record c { saved = saved_by line image c.saved; way = Telling answers.Done text tt }
+TakesPut (Err There) line image text c c' =
+    Says c.screen c'.screen × (c' ≡ record c { screen = c'.screen; way = Asking line image text })
+TakesPut (Err Refused) line image text c c' = c' ≡ record c { way = refused (answers.Refused StoreFault) }
 
-abbrev pub Takes : {A : Type 0} → Result (Unit {0}) StoreError → Way A → ConsoleState A → ConsoleState A → Type 0
-Takes done (Putting line image text) c c' = c' ≡ record c { way = way_put done text }
+abbrev pub Takes : {A : Type 0} → Result (Unit {0}) PutFault → Way A → ConsoleState A → ConsoleState A → Type 0
+Takes done (Putting line image text is_agreed) c c' = TakesPut done line image text c c'
 Takes done way c c' = c' ≡ c
 
 -- the host gives names of files, for the word at the cursor

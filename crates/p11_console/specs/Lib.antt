@@ -5,6 +5,8 @@ pub mod Record
 pub mod Runs
 pub mod Stops
 pub mod Own
+pub mod Manner
+pub mod Saved
 pub mod Typing
 pub mod State
 pub mod Tries

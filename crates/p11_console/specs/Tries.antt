@@ -1,5 +1,5 @@
 -- What a line does, and brings under way.
-use Rattle.std.specs.Prelude.{◌≡◌, ℕ, Bool, true, false, nat_lt, ◌==◌, ◌||◌, List, [], Option, Some, None, Result, Ok, Err, if◌then◌else◌}
+use Rattle.std.specs.Prelude.{◌≡◌, ℕ, Bool, true, false, not, nat_lt, ◌==◌, ◌||◌, List, [], Option, Some, None, Result, Ok, Err, if◌then◌else◌}
 use Rattle.std.specs.Bool.{MatchBool}
 use Rattle.p11_lines.specs.declared.answer.Answer.{Answer}
 use Rattle.p11_lines.specs.declared.answer.Answer.TheVariants as answers
@@ -11,10 +11,12 @@ use Rattle.p11_cpu.specs.State.{State}
 use Rattle.p11_panel.specs.declared.command.Command.{Command}
 use Rattle.p11_panel.specs.declared.command.Command.TheVariants as commands
 use Rattle.p11_panel.specs.Commands.{CommandStep}
+use Rattle.p11_panel.specs.Calls.Runs.{run_command}
 use Rattle.p11_panel.specs.Session.{has_answer}
 use Rattle.p11_console.specs.Own.{own_of, name_of}
 use Rattle.p11_console.specs.Record.{ended, recorded}
 use Rattle.p11_console.specs.Runs.{run_of, talk_of}
+use Rattle.p11_console.specs.declared.settings.Trying.{Trying}
 use Rattle.p11_console.specs.declared.own.Own.{Own}
 use Rattle.p11_console.specs.declared.own.Own.TheVariants as own
 use Rattle.p11_console.specs.declared.way.Way.{Way}
@@ -56,40 +58,48 @@ abbrev pub ActsOr : {A : Type 0} → Line A → Result (Command A) (Line A) → 
 ActsOr line (Ok command) s way s' = Acts command (ended line) s way s'
 ActsOr line (Err other) s way s' = (way ≡ Fetching other (ended line)) × (s' ≡ s)
 
--- the image of a pack waits for its file
-unfoldable pub way_saved : {A : Type 0} → Line A → List ℕ → Answer A → Way A
-way_saved line text (answers.Image image) = Putting line image text
-way_saved line text answer = Telling answer (recorded text answer) tt
+-- The image of a pack waits for its file, which is asked for anew if one is there. A SAVE that writes nothing is answered,
+-- and isn't recorded.
+unfoldable pub way_saved : {A : Type 0} → Trying → Line A → List ℕ → Answer A → Way A
+way_saved how line text (answers.Image image) =
+    if how.is_saveless then Telling answers.Done [] tt else Putting line image text (not how.is_asking)
+way_saved how line text answer = Telling answer (recorded text answer) tt
 
-unfoldable pub Saves : {A : Type 0} → ℕ → Line A → List ℕ → State → Way A → State → Type 0
-Saves {A} drive line text s way s' =
-    (answer : Answer A) × CommandStep s (commands.Save drive) answer s' × (way ≡ way_saved line text answer)
+unfoldable pub Saves : {A : Type 0} → Trying → ℕ → Line A → List ℕ → State → Way A → State → Type 0
+Saves {A} how drive line text s way s' =
+    (answer : Answer A) × CommandStep s (commands.Save drive) answer s' × (way ≡ way_saved how line text answer)
 
-unfoldable pub TriesLine : {A : Type 0} → Line A → State → Way A → State → Type 0
-TriesLine (lines.Step turns) s way s' = (way ≡ run_begun turns false) × (s' ≡ s)
-TriesLine (lines.Continue turns) s way s' = (way ≡ run_begun turns true) × (s' ≡ s)
-TriesLine {A} (lines.Save drive name) s way s' =
-    Saves {A = A} drive (lines.Save drive name) (ended {A = A} (lines.Save drive name)) s way s'
-TriesLine line s way s' = ActsOr line (command_of line) s way s'
+-- a run is made in slices, or at once
+unfoldable pub TriesRun : {A : Type 0} → Trying → Line A → ℕ → Bool → State → Way A → State → Type 0
+TriesRun how line turns until_idle s way s' =
+    MatchBool how.is_whole (Acts (run_command until_idle turns) (ended line) s way s')
+    ((way ≡ run_begun turns until_idle) × (s' ≡ s))
+
+unfoldable pub TriesLine : {A : Type 0} → Trying → Line A → State → Way A → State → Type 0
+TriesLine how (lines.Step turns) s way s' = TriesRun how (lines.Step turns) turns false s way s'
+TriesLine how (lines.Continue turns) s way s' = TriesRun how (lines.Continue turns) turns true s way s'
+TriesLine {A} how (lines.Save drive name) s way s' =
+    Saves {A = A} how drive (lines.Save drive name) (ended {A = A} (lines.Save drive name)) s way s'
+TriesLine how line s way s' = ActsOr line (command_of line) s way s'
 
 -- by what the grammar makes of it
-abbrev pub TriesOr : {A : Type 0} → Option (Line A) → State → Way A → State → Type 0
-TriesOr None s way s' = (way ≡ refused (answers.Refused BadLine)) × (s' ≡ s)
-TriesOr (Some line) s way s' = TriesLine line s way s'
+abbrev pub TriesOr : {A : Type 0} → Trying → Option (Line A) → State → Way A → State → Type 0
+TriesOr how None s way s' = (way ≡ refused (answers.Refused BadLine)) × (s' ≡ s)
+TriesOr how (Some line) s way s' = TriesLine how line s way s'
 
 -- a text that may be a line of the language; a blank one or a remark does nothing
-unfoldable pub Tries : {A : Type 0} → List ℕ → State → Way A → State → Type 0
-Tries text s way s' = MatchBool (has_answer text) (TriesOr (line_from text) s way s') ((way ≡ Free) × (s' ≡ s))
+unfoldable pub Tries : {A : Type 0} → Trying → List ℕ → State → Way A → State → Type 0
+Tries how text s way s' = MatchBool (has_answer text) (TriesOr how (line_from text) s way s') ((way ≡ Free) × (s' ≡ s))
 
 -- a line by what it is to the console
-abbrev pub Does : {A : Type 0} → Own → List ℕ → State → Way A → State → Type 0
-Does own.Talk line s way s' = (way ≡ Running talk_of) × (s' ≡ s)
-Does own.Once line s way s' = (way ≡ run_begun 1 false) × (s' ≡ s)
-Does own.Quit line s way s' = (way ≡ Leaving) × (s' ≡ s)
-Does own.Help line s way s' = (way ≡ Helping tt) × (s' ≡ s)
-Does own.Do line s way s' = (way ≡ Opening (name_of line)) × (s' ≡ s)
-Does own.Language line s way s' = Tries line s way s'
+abbrev pub Does : {A : Type 0} → Own → Trying → List ℕ → State → Way A → State → Type 0
+Does own.Talk how line s way s' = (way ≡ Running talk_of) × (s' ≡ s)
+Does own.Once how line s way s' = (way ≡ run_begun 1 false) × (s' ≡ s)
+Does own.Quit how line s way s' = (way ≡ Leaving) × (s' ≡ s)
+Does own.Help how line s way s' = (way ≡ Helping tt) × (s' ≡ s)
+Does own.Do how line s way s' = (way ≡ Opening (name_of line)) × (s' ≡ s)
+Does own.Language how line s way s' = Tries how line s way s'
 
 -- a line that was typed, or that a typed one means
-unfoldable pub DoesLine : {A : Type 0} → List ℕ → State → Way A → State → Type 0
-DoesLine line s way s' = Does (own_of line) line s way s'
+unfoldable pub DoesLine : {A : Type 0} → Trying → List ℕ → State → Way A → State → Type 0
+DoesLine how line s way s' = Does (own_of line) how line s way s'

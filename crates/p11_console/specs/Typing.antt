@@ -1,5 +1,5 @@
 -- Keys that make a line.
-use Rattle.std.specs.Prelude.{◌≡◌, ◌⊎◌, ℕ, false, ◌&&◌, nat_eq, List, [], length, Option, Some, None, if◌then◌else◌}
+use Rattle.std.specs.Prelude.{◌≡◌, ◌⊎◌, ℕ, false, ◌&&◌, nat_eq, List, [], ◌∷◌, ◌++◌, length, Option, Some, None, if◌then◌else◌}
 use Rattle.p11_line_editor.specs.declared.decoder.Phase.{Phase}
 use Rattle.p11_line_editor.specs.declared.decoder.Phase.TheVariants.{Start}
 use Rattle.p11_line_editor.specs.declared.editor.Editor.{Editor}
@@ -61,6 +61,10 @@ unfoldable pub kept_line : {A : Type 0} → Typist A → Typist A
 kept_line t =
     if nat_eq (length (verb_of t.editor.line.text)) 0 then t
     else record t { history = remembered t.editor.line.text t.history }
+
+-- its text for the history's file, if it has a word
+unfoldable pub past_of : {A : Type 0} → Typist A → List ℕ
+past_of t = if nat_eq (length (verb_of t.editor.line.text)) 0 then [] else t.editor.line.text ++ 10 ∷ []
 
 -- what comes under way by what a key has led to
 abbrev pub outcome_way : {A : Type 0} → Option Outcome → Way A

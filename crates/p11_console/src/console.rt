@@ -1,36 +1,43 @@
 // The console: events in, bytes and requests out.
-ghost use Rattle.std.specs.Prelude.{◌≡◌, ◌++◌, ◌≤◌, ◌+◌, min, true, false, None, slice_get, length, drop, OnOk, OnErr, IfOk, IfErr, option_copied};
+ghost use Rattle.std.specs.Prelude.{◌≡◌, ◌++◌, ◌≤◌, ◌+◌, ◌∷◌, [], min, true, false, None, slice_get, length, drop, OnOk, OnErr, IfOk, IfErr, option_copied};
 ghost use Rattle.p11_line_editor.specs.Completion.{word_of};
 ghost use Rattle.p11_lines.specs.AnswerText.{text_of};
 ghost use Rattle.p11_cpu.specs.OperatorDevices.{room_of};
-ghost use Rattle.p11_console.specs.Files.{Gives, Takes, Names, file_of, wanted, image_in};
+ghost use Rattle.p11_console.specs.Files.{Gives, Takes, TakesPut, Names, file_of, wanted, image_in, may_replace, way_missing};
+ghost use Rattle.p11_console.specs.Manner.{is_person, is_batch};
+ghost use Rattle.p11_console.specs.Runs.{talk_of};
 ghost use Rattle.p11_console.specs.Said.{Says, SaysBefore};
 ghost use Rattle.p11_console.specs.State.{opened};
-ghost use Rattle.p11_console.specs.Steps.{Steps, Moves, Rests, FindsLine, DoesMeant, DoesScripted, Prompts, Types, Completes, Reads, DoesPhrase, Runs, RunRests, TypingRests, TicksIn, RunsBy, Leaves, still_warned, is_quit, has_changed, any_changed, is_changed, way_ended, stopped_by};
+ghost use Rattle.p11_console.specs.Steps.{Steps, Moves, Rests, FindsLine, DoesMeant, DoesScripted, Begins, Types, TakesKey, TakesLine, has_given, Completes, Reads, DoesPhrase, Runs, RunRests, TypingRests, RestsForKeys, TicksIn, RunsBy, Answers, IsAsking, DoesGiven, agrees, Leaves, still_warned, is_quit, is_refusal, goes_behind, status_of, way_ended, stopped_by};
 ghost use Rattle.p11_console.specs.Stops.{stop_text};
-ghost use Rattle.p11_console.specs.Typing.{rested};
+ghost use Rattle.p11_console.specs.Typing.{rested, kept_line, past_of};
+ghost use Rattle.p11_line_editor.specs.History.{remembered};
 
 use crate::buffer::Buffer;
 use crate::completing::{Kind, candidates, kind_at, list};
-use crate::files::{give_line, name_of, refuse, way_put};
+use crate::files::{give_line, name_of, way_missing};
 use crate::help::help_on;
-use crate::lines::{drop_line, first_line};
+use crate::lines::{drop_line, first_line, line_end};
+use crate::misfit::add_meanings;
 use crate::note::Note;
 use crate::own::{Own, own_of};
-use crate::reasons::sentence;
+use crate::packs::{Packs, any_unsaved};
+use crate::reasons::note_of_file;
 use crate::record::{record_keys, record_run, record_tick};
-use crate::run::{Course, Run, course_of, pressed_on};
+use crate::run::{Course, Run, course_of, pressed_on, talk_of};
 use crate::scripts::Script;
-use crate::slices::{at_slice, given_keys, show_slice, slice, take_escape};
+use crate::settings::{Settings, is_batch, is_person, trying};
+use crate::slices::{at_slice, given_keys, show_slice, slice, take_escape, take_interrupt};
 use crate::stop::{Cause, Stop, put_stop, stop_of};
 use crate::text::Text;
 use crate::tries::{do_line, refused, try_text};
+use crate::trouble::{PutFault, Trouble};
 use crate::typist::{Typist, outcome_way};
 use crate::want::Want;
 use crate::way::{Place as WayPlace, Way};
 use p11_line_editor::Outcome;
-use p11_lines::{Answer, Bytes, Fault, NoMemory};
-use p11_panel::{Command, DriveShown, Panel, StoreError};
+use p11_lines::{Answer, Bytes, Fault, Line, NoMemory};
+use p11_panel::{Command, Panel};
 use p11_phrases::{Phrase, Place, Refusal, read_phrase};
 use std::alloc::{Allocator, Global};
 use std::marker::Model;
@@ -41,6 +48,8 @@ const PROMPT: &[u8] = b"p11> ";
 /// A console over a machine. Contracts see its `ConsoleState`.
 pub struct Console<A: Allocator = Global> {
     panel: Panel<A>,
+    settings: Settings,
+    is_to_talk: bool,
     waiting: Buffer<A>,
     is_over: bool,
     ticks: u32,
@@ -48,20 +57,33 @@ pub struct Console<A: Allocator = Global> {
     place: Place,
     lines: Buffer<A>,
     script: Buffer<A>,
+    is_scripted: bool,
+    has_refused: bool,
+    lacks_script: bool,
     is_warned: bool,
+    saved: Packs<A>,
     screen: Buffer<A>,
     journal: Buffer<A>,
+    past: Buffer<A>,
     way: WayPlace<A>,
+    /// What is said of a script that is all, apart from the answers.
+    errors: Buffer<A>,
+    /// Whether it was said how one comes back from a talk.
+    is_told: bool,
     /// The columns of the screen.
     columns: usize,
     /// Where the script's lines stand.
     source: Script<A>,
+    /// The names of the files that weren't written, each with a space before it.
+    unwritten: Vec<u8, A>,
 }
 
 impl<A: Allocator> Drop for Console<A> {
     fn drop(self) {
         let Console {
             panel: _,
+            settings: _,
+            is_to_talk: _,
             waiting: _,
             is_over: _,
             ticks: _,
@@ -69,12 +91,20 @@ impl<A: Allocator> Drop for Console<A> {
             place: _,
             lines: _,
             script: _,
+            is_scripted: _,
+            has_refused: _,
+            lacks_script: _,
             is_warned: _,
+            saved: _,
             screen: _,
             journal: _,
+            past: _,
             way: _,
+            errors: _,
+            is_told: _,
             columns: _,
             source: _,
+            unwritten: _,
         } = self;
     }
 }
@@ -86,6 +116,8 @@ impl<A: Allocator> Model for Console<A> {
 
     ghost view = { λ c. record {
       machine = c.panel;
+      settings = c.settings;
+      is_to_talk = c.is_to_talk;
       waiting = c.waiting;
       is_over = c.is_over;
       ticks = c.ticks;
@@ -93,9 +125,14 @@ impl<A: Allocator> Model for Console<A> {
       place = c.place;
       lines = c.lines;
       script = c.script;
+      is_scripted = c.is_scripted;
+      has_refused = c.has_refused;
+      lacks_script = c.lacks_script;
       is_warned = c.is_warned;
+      saved = c.saved;
       screen = c.screen;
       journal = c.journal;
+      past = c.past;
       way = c.way;
     } };
 }
@@ -103,11 +140,13 @@ impl<A: Allocator> Model for Console<A> {
 impl<A: Allocator + Copy> Console<A> {
     /// A console over a machine, with nothing under way.
     #[tactic(auto, unfolding(crate::specs::State::opened))]
-    pub fn new(alloc: A, panel: Panel<A>) -> Self
-        ensures { result ≡ opened panel }
+    pub fn new(alloc: A, panel: Panel<A>, settings: Settings) -> Self
+        ensures { result ≡ opened panel settings }
     {
         Console {
             panel,
+            settings,
+            is_to_talk: settings.is_talk,
             waiting: Buffer::new(alloc),
             is_over: false,
             ticks: 0,
@@ -115,13 +154,43 @@ impl<A: Allocator + Copy> Console<A> {
             place: Place::Nowhere,
             lines: Buffer::new(alloc),
             script: Buffer::new(alloc),
+            is_scripted: false,
+            has_refused: false,
+            lacks_script: false,
             is_warned: false,
+            saved: Packs::new(),
             screen: Buffer::new(alloc),
             journal: Buffer::new(alloc),
+            past: Buffer::new(alloc),
             way: WayPlace::free(),
+            errors: Buffer::new(alloc),
+            is_told: false,
             columns: 80,
-            source: Script::of(Bytes::from_vec(Vec::new(alloc))),
+            source: Script::of(alloc, Bytes::from_vec(Vec::new(alloc))),
+            unwritten: Vec::new(alloc),
         }
+    }
+
+    /// The lines of the file of this name come next, where nothing is under way.
+    pub fn open(&mut self, alloc: A, name: &[u8]) -> Result<(), NoMemory>
+        ensures ok { OnOk result (self.new ≡ record self.old { way = Way.Opening name.now }) }
+        ensures err { OnErr result (self.new ≡ self.old) }
+    {
+        let mut copy = Vec::new(alloc);
+        copy.extend_from_slice(name)?;
+        self.way.set(Way::Opening {
+            name: Bytes::from_vec(copy),
+        });
+        Ok(())
+    }
+
+    /// A line that was typed in an earlier dialogue.
+    pub fn remember(&mut self, alloc: A, line: &[u8]) -> Result<(), NoMemory>
+        ensures ok { OnOk result (self.new ≡ record self.old { typist = record self.old.typist { history = remembered line.now self.old.typist.history } }) }
+        ensures err { OnErr result (self.new ≡ self.old) }
+    {
+        self.typist.remember(alloc, line)?;
+        Ok(())
     }
 
     /// Takes keys behind those that wait; or none, where there is no memory for them all.
@@ -167,6 +236,43 @@ impl<A: Allocator + Copy> Console<A> {
         self.screen.as_slice()
     }
 
+    /// Shows the line again that is typed, as when the terminal was another program's.
+    pub fn redrawn(&mut self)
+        ensures { Says self.old.screen self.new.screen × (self.new ≡ record self.old { screen = self.new.screen }) }
+    {
+        if let Way::Typing = self.way.get() {
+            if is_person(self.settings.manner) {
+                self.screen.say(b"\r");
+                self.show(Outcome::Changed);
+            }
+        }
+    }
+
+    /// The lines for the history's file that the host hasn't taken.
+    pub fn past(&self) -> &[u8]
+        ensures { result.now ≡ self.now.past }
+    {
+        self.past.as_slice()
+    }
+
+    /// The bytes for the standard error that the host hasn't taken: what is said of a script that is all.
+    pub fn errors(&self) -> &[u8] {
+        self.errors.as_slice()
+    }
+
+    /// The status of a program that holds this dialogue, once it is over (decimal).
+    #[tactic(auto, unfolding(crate::specs::Steps::status_of))]
+    pub fn status(&self) -> u8
+        ensures { result ≡ status_of self.now }
+    {
+        let is_failed = self.lacks_script || self.settings.is_strict && self.has_refused;
+        if is_batch(self.settings.manner) && is_failed {
+            1
+        } else {
+            0
+        }
+    }
+
     /// The bytes for the record that the host hasn't taken.
     pub fn record(&self) -> &[u8]
         ensures { result.now ≡ self.now.journal }
@@ -188,6 +294,22 @@ impl<A: Allocator + Copy> Console<A> {
         ensures { self.new ≡ record self.old { journal = drop count self.old.journal } }
     {
         self.journal.drop_front(count);
+    }
+
+    /// The host has written so many bytes of the history's.
+    pub fn kept(&mut self, count: usize)
+        requires { count ≤ length self.old.past }
+        ensures { self.new ≡ record self.old { past = drop count self.old.past } }
+    {
+        self.past.drop_front(count);
+    }
+
+    /// The host has written all that is for the standard error.
+    pub fn told(&mut self)
+        ensures { self.new ≡ self.old }
+    {
+        let count = self.errors.len();
+        self.errors.drop_front(count);
     }
 
     /// The name of the file that is wanted, or that `image` is for.
@@ -212,8 +334,18 @@ impl<A: Allocator + Copy> Console<A> {
         }
     }
 
+    /// Whether a file of that name which is there may be written over.
+    pub fn may_replace(&self) -> bool
+        ensures { result ≡ may_replace self.now.way }
+    {
+        match self.way.get() {
+            Way::Putting { is_agreed, .. } => *is_agreed,
+            _ => true,
+        }
+    }
+
     /// The host gives the bytes of the file that is wanted, or says why not. Where none is wanted nothing is done.
-    pub fn fetched(&mut self, alloc: A, file: Result<Vec<u8, A>, StoreError>)
+    pub fn fetched(&mut self, alloc: A, file: Result<Vec<u8, A>, Trouble>)
         ensures { Gives (file_of file) self.old.way self.old self.new }
     {
         let way = self.way.take();
@@ -221,7 +353,7 @@ impl<A: Allocator + Copy> Console<A> {
         self.way.set(way);
     }
 
-    fn give(&mut self, alloc: A, way: Way<A>, file: Result<Vec<u8, A>, StoreError>) -> Way<A>
+    fn give(&mut self, alloc: A, way: Way<A>, file: Result<Vec<u8, A>, Trouble>) -> Way<A>
         ensures { Gives (file_of file) way (record self.old { way = way }) (record self.new { way = result }) }
     {
         match way {
@@ -229,24 +361,98 @@ impl<A: Allocator + Copy> Console<A> {
             Way::Opening { name } => match file {
                 Ok(bytes) => {
                     self.script = Buffer::of(bytes);
-                    self.source = Script::of(name);
+                    self.source = Script::of(alloc, name);
                     Way::Free
                 }
-                Err(error) => refuse(alloc, error),
+                Err(trouble) => self.miss(alloc, name.as_slice(), trouble),
             },
             way => way,
         }
     }
 
+    /// A script can't be had.
+    fn miss(&mut self, alloc: A, name: &[u8], trouble: Trouble) -> Way<A>
+        ensures way { result ≡ way_missing (is_batch self.old.settings.manner) trouble.error }
+        ensures state { self.new ≡ record self.old { lacks_script = true } }
+    {
+        self.lacks_script = true;
+        let is_all = is_batch(self.settings.manner);
+        if is_all {
+            let mut said = Text::new(alloc);
+            said.add(b"terminal: ");
+            said.add(name);
+            said.add(b": ");
+            said.add(trouble.reason.as_bytes());
+            said.add(b"\n");
+            self.errors.say(said.as_slice());
+        }
+        way_missing(alloc, is_all, name, trouble)
+    }
+
     /// The host has written the file, or says why not. Where none was to be written nothing is done.
-    pub fn put(&mut self, alloc: A, done: Result<(), StoreError>)
+    pub fn put(&mut self, alloc: A, done: Result<(), PutFault>)
         ensures { Takes done self.old.way self.old self.new }
     {
-        let way = match self.way.take() {
-            Way::Putting { text, .. } => way_put(alloc, done, text),
-            way => way,
-        };
+        let way = self.way.take();
+        let way = self.take_put(alloc, way, done);
         self.way.set(way);
+    }
+
+    fn take_put(&mut self, alloc: A, way: Way<A>, done: Result<(), PutFault>) -> Way<A>
+        ensures { Takes done way (record self.old { way = way }) (record self.new { way = result }) }
+    {
+        match way {
+            Way::Putting {
+                line, image, text, ..
+            } => self.end_save(alloc, line, image, text, done),
+            way => way,
+        }
+    }
+
+    /// Ends a SAVE whose file the host has written, or not.
+    fn end_save(
+        &mut self,
+        alloc: A,
+        line: Line<A>,
+        image: Bytes<A>,
+        text: Bytes<A>,
+        done: Result<(), PutFault>,
+    ) -> Way<A>
+        ensures { TakesPut done line image text self.old (record self.new { way = result }) }
+    {
+        match done {
+            Ok(()) => {
+                self.saved.note(&line, image);
+                Way::Telling {
+                    answer: Answer::Done,
+                    text,
+                    note: Note::none(),
+                }
+            }
+            Err(PutFault::There) => {
+                self.ask(alloc, &line);
+                Way::Asking { line, image, text }
+            }
+            Err(PutFault::Refused { reason }) => {
+                let name = match name_of(&line) {
+                    Some(name) => name,
+                    None => b"",
+                };
+                refused(alloc, Fault::StoreFault, note_of_file(alloc, name, reason))
+            }
+        }
+    }
+
+    /// Asks whether the file of a line is written over.
+    fn ask(&mut self, alloc: A, line: &Line<A>)
+        ensures { Says self.old.screen self.new.screen × (self.new ≡ record self.old { screen = self.new.screen }) }
+    {
+        let mut said = Text::new(alloc);
+        if let Some(name) = name_of(line) {
+            said.add(name);
+        }
+        said.add(b" is there: write over it (y, or another key)? ");
+        self.screen.say(said.as_slice());
     }
 
     /// The host gives names of files that may stand at the cursor, of a folder with `/` behind it. Where none are wanted
@@ -333,7 +539,7 @@ impl<A: Allocator + Copy> Console<A> {
     {
         match self.way.get() {
             Way::Free => self.find_line(alloc),
-            Way::Typing => self.take_key(alloc),
+            Way::Typing => self.take_typed(alloc),
             Way::Naming => {
                 if kind_at(&self.typist.editor) == Kind::File {
                     return Err(Want::Names);
@@ -342,7 +548,7 @@ impl<A: Allocator + Copy> Console<A> {
                 Ok(Way::Typing)
             }
             Way::Entered => {
-                self.typist.keep(alloc)?;
+                self.keep_line(alloc)?;
                 Ok(Way::Noted)
             }
             Way::Noted => self.read_line(alloc),
@@ -371,16 +577,40 @@ impl<A: Allocator + Copy> Console<A> {
             }
             Way::Telling { answer, text, note } => {
                 tell(&mut self.screen, &mut self.journal, answer, text.as_slice())?;
-                let said = note_text(alloc, &mut self.source, note);
-                self.screen.say(said.as_slice());
+                self.has_refused = self.has_refused || self.is_scripted && is_refusal(answer);
+                let mut said = Text::new(alloc);
+                if is_batch(self.settings.manner) {
+                    self.source.add_remark(&mut said, answer, note);
+                    self.errors.say(said.as_slice());
+                } else {
+                    self.source.add_note(&mut said, answer, note);
+                    self.screen.say(said.as_slice());
+                }
+                note_unwritten(alloc, &mut self.unwritten, note);
                 Ok(Way::Free)
             }
+            Way::Asking { .. } => self.take_answer(),
             Way::Fetching { .. } => Err(Want::Fetch),
             Way::Opening { .. } => Err(Want::Fetch),
             Way::Putting { .. } => Err(Want::Put),
-            Way::Leaving => Ok(self.leave(alloc)),
+            Way::Leaving => self.leave(alloc),
             Way::Over => Err(Want::End),
         }
+    }
+
+    /// Remembers the line that was typed.
+    fn keep_line(&mut self, alloc: A) -> Result<(), NoMemory>
+        ensures ok { OnOk result (self.new ≡ record self.old { typist = kept_line self.old.typist; past = self.old.past ++ past_of self.old.typist }) }
+        ensures err { OnErr result (self.new ≡ self.old) }
+    {
+        let text = self.typist.past_text(alloc)?;
+        let len = self.past.len();
+        self.past.push_all(text.as_slice())?;
+        if self.typist.keep(alloc).is_err() {
+            self.past.cut(len);
+            return Err(NoMemory);
+        }
+        Ok(())
     }
 
     /// Does the next line that waits, or begins one.
@@ -393,28 +623,76 @@ impl<A: Allocator + Copy> Console<A> {
         if self.lines.has_some() {
             return self.do_meant(alloc);
         }
-        if self.script.has_some() {
+        let is_all = is_batch(self.settings.manner);
+        let is_given_up = is_all && (self.settings.is_strict && self.has_refused);
+        if self.script.has_some() && !is_given_up {
             return self.do_scripted(alloc);
         }
+        Ok(self.begin(alloc))
+    }
+
+    /// Goes on behind a script: with a line, a talk, or the end.
+    fn begin(&mut self, alloc: A) -> Way<A>
+        ensures { Begins self.old (record self.new { way = result }) }
+    {
+        let is_all = is_batch(self.settings.manner);
+        let is_to_talk = self.is_to_talk;
         let mut said = Text::new(alloc);
         self.source.end(&mut said);
-        said.add(PROMPT);
-        self.screen.say(said.as_slice());
+        if is_all {
+            add_unwritten(&mut said, self.unwritten.as_slice());
+            self.errors.say(said.as_slice());
+            self.screen.say(b"");
+        } else {
+            if is_to_talk {
+                said.add(self.talk_text());
+            } else if is_person(self.settings.manner) {
+                said.add(PROMPT);
+            }
+            self.screen.say(said.as_slice());
+        }
+        self.is_to_talk = false;
         self.typist.begin();
-        Ok(Way::Typing)
+        goes_behind(is_all, is_to_talk)
+    }
+
+    /// How one comes back from a talk, once, where a person types.
+    fn talk_text(&mut self) -> &'static [u8]
+        ensures { self.new ≡ self.old }
+    {
+        let is_first = !self.is_told && is_person(self.settings.manner);
+        self.is_told = true;
+        if is_first {
+            b"(Ctrl-E comes back to the console.)\n"
+        } else {
+            b""
+        }
+    }
+
+    /// What is said as something comes under way.
+    fn way_text(&mut self, way: &Way<A>) -> &'static [u8]
+        ensures { self.new ≡ self.old }
+    {
+        match way {
+            Way::Running(run) if run.is_talk => self.talk_text(),
+            _ => b"",
+        }
     }
 
     /// Does the first of the lines that the typed one means.
+    #[tactic(auto, unfolding(crate::specs::Steps::DoesMeant))]
     fn do_meant(&mut self, alloc: A) -> Result<Way<A>, Want>
         ensures ok { IfOk result (λ way. DoesMeant self.old (record self.new { way = way })) }
         ensures err { IfErr result (λ want. want ≡ Want.Memory) }
         ensures same { OnErr result (self.new ≡ self.old) }
     {
         let line = first_line(self.lines.as_slice());
-        let way = do_line(alloc, &mut self.panel, line)?;
+        let way = do_line(alloc, &mut self.panel, trying(self.settings, false), line)?;
         self.is_warned = still_warned(self.is_warned, line);
+        self.is_scripted = false;
         self.source.leave_line();
-        let said = meant_text(alloc, line, &way);
+        let mut said = meant_text(alloc, line);
+        said.add(self.way_text(&way));
         self.screen.say(said.as_slice());
         drop_line(&mut self.lines);
         Ok(way)
@@ -426,23 +704,45 @@ impl<A: Allocator + Copy> Console<A> {
         ensures err { IfErr result (λ want. want ≡ Want.Memory) }
         ensures same { OnErr result (self.new ≡ self.old) }
     {
-        let way = try_text(alloc, &mut self.panel, first_line(self.script.as_slice()))?;
+        let how = trying(self.settings, true);
+        let way = try_text(
+            alloc,
+            &mut self.panel,
+            how,
+            first_line(self.script.as_slice()),
+        )?;
+        self.source.begin_line(first_line(self.script.as_slice()));
         drop_line(&mut self.script);
-        self.source.begin_line();
+        self.is_scripted = true;
         self.is_warned = false;
         Ok(way)
     }
 
-    /// Takes the first key that waits.
+    /// Takes the first key that waits, or the first line of a program.
     #[tactic(auto, unfolding(crate::specs::Steps::Types))]
-    fn take_key(&mut self, alloc: A) -> Result<Way<A>, Want>
+    fn take_typed(&mut self, alloc: A) -> Result<Way<A>, Want>
         ensures ok { IfOk result (λ way. Types self.old (record self.new { way = way })) }
         ensures err { IfErr result (λ want. TypingRests want self.old) }
         ensures same { OnErr result (self.new ≡ self.old) }
     {
         if self.ticks > 0 {
-            return self.tick(alloc, 0, Way::Typing);
+            let way = self.tick(alloc, 0, Way::Typing)?;
+            return Ok(way);
         }
+        if is_person(self.settings.manner) {
+            return self.take_key();
+        }
+        self.take_line(alloc)
+    }
+
+    /// Takes the first key that waits.
+    fn take_key(&mut self) -> Result<Way<A>, Want>
+        requires ticks { self.old.ticks ≡ 0 }
+        requires person { is_person self.old.settings.manner ≡ true }
+        ensures ok { IfOk result (λ way. TakesKey (slice_get self.old.waiting 0) self.old (record self.new { way = way })) }
+        ensures err { IfErr result (λ want. TypingRests want self.old) }
+        ensures same { OnErr result (self.new ≡ self.old) }
+    {
         let Some(byte) = self.waiting.first() else {
             if self.is_over {
                 return Ok(Way::Leaving);
@@ -453,6 +753,67 @@ impl<A: Allocator + Copy> Console<A> {
         let outcome = self.typist.take(byte);
         self.draw(outcome);
         Ok(outcome_way(outcome))
+    }
+
+    /// Does the first line that a program has given.
+    fn take_line(&mut self, alloc: A) -> Result<Way<A>, Want>
+        requires ticks { self.old.ticks ≡ 0 }
+        requires person { is_person self.old.settings.manner ≡ false }
+        ensures ok { IfOk result (λ way. TakesLine self.old (record self.new { way = way })) }
+        ensures err { IfErr result (λ want. TypingRests want self.old) }
+        ensures same { OnErr result (self.new ≡ self.old) }
+    {
+        if has_given(self.is_over, self.waiting.as_slice()) {
+            let way = self.do_given(alloc)?;
+            return Ok(way);
+        }
+        if self.is_over {
+            return Ok(Way::Leaving);
+        }
+        Err(Want::Keys)
+    }
+
+    fn do_given(&mut self, alloc: A) -> Result<Way<A>, NoMemory>
+        ensures ok { IfOk result (λ way. DoesGiven self.old (record self.new { way = way })) }
+        ensures same { OnErr result (self.new ≡ self.old) }
+    {
+        let line = first_line(self.waiting.as_slice());
+        let way = do_line(alloc, &mut self.panel, trying(self.settings, false), line)?;
+        self.is_warned = still_warned(self.is_warned, line);
+        self.is_scripted = false;
+        self.source.leave_line();
+        let said = self.way_text(&way);
+        self.screen.say(said);
+        drop_line(&mut self.waiting);
+        Ok(way)
+    }
+
+    /// Takes the answer to the question whether a file is written over.
+    fn take_answer(&mut self) -> Result<Way<A>, Want>
+        requires { IsAsking self.old.way }
+        ensures ok { IfOk result (λ way. Answers self.old.way self.old (record self.new { way = way })) }
+        ensures err { IfErr result (λ want. (want ≡ Want.Keys) × RestsForKeys self.old.way self.old) }
+        ensures same { OnErr result (self.new ≡ self.old) }
+    {
+        let Some(byte) = self.waiting.first() else {
+            if self.is_over {
+                self.screen.say(answer_text(false));
+                return Ok(Way::Free);
+            }
+            return Err(Want::Keys);
+        };
+        let is_agreed = agrees(byte);
+        self.waiting.drop_front(1);
+        self.screen.say(answer_text(is_agreed));
+        match self.way.take() {
+            Way::Asking { line, image, text } if is_agreed => Ok(Way::Putting {
+                line,
+                image,
+                text,
+                is_agreed: true,
+            }),
+            _ => Ok(Way::Free),
+        }
     }
 
     /// Does a tick that waits, and records it behind so many turns.
@@ -490,7 +851,12 @@ impl<A: Allocator + Copy> Console<A> {
     {
         match read_phrase(alloc, self.place, self.typist.editor.text()) {
             Err(Refusal::NoMemory) => Err(Want::Memory),
-            Err(refusal) => Ok(refused(alloc, Fault::BadLine, sentence(alloc, refusal.reason()))),
+            Err(refusal) => {
+                let note = why_no_phrase(alloc, refusal, self.typist.editor.text());
+                self.is_scripted = false;
+                self.source.leave_line();
+                Ok(refused(alloc, Fault::BadLine, note))
+            }
             Ok(phrase) => self.do_phrase(alloc, phrase),
         }
     }
@@ -504,11 +870,13 @@ impl<A: Allocator + Copy> Console<A> {
         match lines {
             None => {
                 let line = self.typist.editor.text();
-                let way = do_line(alloc, &mut self.panel, line)?;
+                let way = do_line(alloc, &mut self.panel, trying(self.settings, false), line)?;
                 self.is_warned = still_warned(self.is_warned, line);
                 self.place = place;
+                self.is_scripted = false;
                 self.source.leave_line();
-                self.screen.say(way_text(&way));
+                let said = self.way_text(&way);
+                self.screen.say(said);
                 Ok(way)
             }
             Some(lines) => {
@@ -527,7 +895,14 @@ impl<A: Allocator + Copy> Console<A> {
         ensures same { OnErr result (self.new ≡ self.old) }
     {
         let room = self.panel.room();
-        let course = course_of(run, self.ticks, self.is_over, self.waiting.as_slice(), room);
+        let course = course_of(
+            run,
+            is_person(self.settings.manner),
+            self.ticks,
+            self.is_over,
+            self.waiting.as_slice(),
+            room,
+        );
         match course {
             Course::Slices => {
                 let has_keys = self.waiting.has_some();
@@ -541,6 +916,7 @@ impl<A: Allocator + Copy> Console<A> {
             Course::Ticks => self.tick(alloc, run.made, Way::Running(pressed_on(run))),
             Course::Records => self.record_turns(alloc, run),
             Course::Escapes => self.escape(alloc, run),
+            Course::Hints => Ok(self.hint(run)),
             Course::Ends => self.end_run(alloc, run, Cause::End),
             Course::Rests => Err(Want::Idle),
         }
@@ -553,13 +929,22 @@ impl<A: Allocator + Copy> Console<A> {
         ensures err { IfErr result (λ want. want ≡ Want.Memory) }
         ensures same { OnErr result (self.new ≡ self.old) }
     {
-        let keys = given_keys(self.waiting.as_slice(), room);
-        let count = keys.len();
-        let text = record_keys(alloc, run.made, keys)?;
+        let is_person = is_person(self.settings.manner);
+        let given = given_keys(alloc, is_person, self.waiting.as_slice(), room)?;
+        let text = record_keys(alloc, run.made, given.keys.as_slice())?;
         self.journal.push_all(text.as_slice())?;
-        self.panel.press_all(keys);
-        self.waiting.drop_front(count);
+        self.panel.press_all(given.keys.as_slice());
+        self.waiting.drop_front(given.count);
         Ok(Way::Running(pressed_on(run)))
+    }
+
+    /// Takes a Ctrl-C out of the keys, and says what ends a run.
+    fn hint(&mut self, run: Run) -> Way<A>
+        ensures { RunsBy Course.Hints 0 run self.old (record self.new { way = result }) }
+    {
+        take_interrupt(&mut self.waiting);
+        self.screen.say(b"(Ctrl-E ends the run.)\n");
+        Way::Running(run)
     }
 
     /// Records the turns so far.
@@ -603,61 +988,115 @@ impl<A: Allocator + Copy> Console<A> {
         Ok(way)
     }
 
-    /// The end, unless packs were written and that wasn't told.
+    /// The end, unless there is a pack that is in no file, and that wasn't told.
     #[tactic(auto, unfolding(crate::specs::Steps::Leaves))]
-    fn leave(&mut self, alloc: A) -> Way<A>
-        ensures { Leaves self.old (record self.new { way = result }) }
+    fn leave(&mut self, alloc: A) -> Result<Way<A>, Want>
+        ensures ok { IfOk result (λ way. Leaves self.old (record self.new { way = way })) }
+        ensures err { IfErr result (λ want. want ≡ Want.Memory) }
+        ensures same { OnErr result (self.new ≡ self.old) }
     {
-        let answer = self.panel.act(alloc, &Command::Device);
-        let is_changed = has_changed(&answer);
-        let is_over = self.is_warned || self.is_over || !is_changed;
-        self.screen.say(leaving_text(is_changed, is_over));
+        let at_once = self.is_warned || (self.is_over || self.settings.is_saveless);
+        let mut said = Text::new(alloc);
+        let found = any_unsaved(alloc, &mut self.panel, &self.saved, &mut said);
+        let is_over = at_once || !found?;
+        if !is_over {
+            said.add(b"A second quit leaves, and what no file has is lost.\n");
+        }
         if is_over {
-            return Way::Over;
+            add_unwritten(&mut said, self.unwritten.as_slice());
+        }
+        self.screen.say(said.as_slice());
+        if is_over {
+            return Ok(Way::Over);
         }
         self.is_warned = true;
-        Way::Free
+        Ok(Way::Free)
     }
 }
 
-/// How one comes back from a talk that begins.
-fn way_text<A: Allocator>(way: &Way<A>) -> &'static [u8] {
-    match way {
-        Way::Running(run) if run.is_talk => b"(Ctrl-E comes back to the console.)\n",
-        _ => b"",
-    }
-}
-
-/// A line that the typed one means, and how one comes back from a talk.
-fn meant_text<A: Allocator>(alloc: A, line: &[u8], way: &Way<A>) -> Text<A> {
+/// A line that the typed one means.
+fn meant_text<A: Allocator>(alloc: A, line: &[u8]) -> Text<A> {
     let mut text = Text::new(alloc);
     text.add(b"= ");
     text.add(line);
     text.add(b"\n");
-    text.add(way_text(way));
     text
 }
 
-/// Why a line was refused, and where it stands in a script.
-fn note_text<A: Allocator>(alloc: A, source: &mut Script<A>, note: &Note<A>) -> Text<A> {
+/// Why a typed line means nothing.
+fn why_no_phrase<A: Allocator>(alloc: A, refusal: Refusal, typed: &[u8]) -> Note<A> {
     let mut text = Text::new(alloc);
-    if !note.as_slice().is_empty() {
-        text.add(b"  ");
-        source.refuse(&mut text);
-        text.add(note.as_slice());
-        text.add(b".\n");
+    text.add(refusal.reason().as_bytes());
+    if let Refusal::Ambiguous = refusal {
+        add_meanings(&mut text, typed);
     }
-    text
+    Note::of(text.into_vec())
 }
 
-/// That packs were written, and what a second `quit` does.
-fn leaving_text(is_changed: bool, is_over: bool) -> &'static [u8] {
-    if !is_changed {
-        b""
-    } else if is_over {
-        b"A pack that is mounted was written: its last state may be in no file.\n"
+/// Keeps the name of the file that a line would have written, if it is a new one.
+fn note_unwritten<A: Allocator + Copy>(alloc: A, names: &mut Vec<u8, A>, note: &Note<A>) {
+    let Some(name) = note.unwritten_name() else {
+        return;
+    };
+    let mut entry = Text::new(alloc);
+    entry.add(b" ");
+    entry.add(name);
+    let _ = names.extend_from_slice(entry.as_slice());
+}
+
+/// Adds which files weren't written, since none was to be.
+fn add_unwritten<A: Allocator>(text: &mut Text<A>, names: &[u8]) {
+    if names.is_empty() {
+        return;
+    }
+    text.add(b"--no-save: not written:");
+    text.add(names);
+    text.add(b"\n");
+}
+
+/// What follows the question whether a file is written over.
+fn answer_text(is_agreed: bool) -> &'static [u8] {
+    if is_agreed {
+        b"y\n"
     } else {
-        b"A pack that is mounted was written: save writes it to a file. A second quit leaves.\n"
+        b"no\nNot written.\n"
+    }
+}
+
+/// `y` and `Y`.
+fn agrees(byte: u8) -> bool
+    ensures { result ≡ agrees byte }
+{
+    byte == b'y' || byte == b'Y'
+}
+
+/// Whether a program has given a line, or the rest of what it gives.
+#[tactic(auto, unfolding(crate::specs::Steps::has_given))]
+fn has_given(is_over: bool, waiting: &[u8]) -> bool
+    ensures { result ≡ has_given is_over waiting.now }
+{
+    line_end(waiting).is_some() || is_over && !waiting.is_empty()
+}
+
+/// What comes behind a script.
+fn goes_behind<A: Allocator>(is_all: bool, is_to_talk: bool) -> Way<A>
+    ensures { result ≡ (if is_all then Way.Over else (if is_to_talk then Way.Running talk_of else Way.Typing)) }
+{
+    if is_all {
+        return Way::Over;
+    }
+    if is_to_talk {
+        return Way::Running(talk_of());
+    }
+    Way::Typing
+}
+
+fn is_refusal<A: Allocator>(answer: &Answer<A>) -> bool
+    ensures { result ≡ is_refusal answer.now }
+{
+    match answer {
+        Answer::Refused(_) => true,
+        _ => false,
     }
 }
 
@@ -683,40 +1122,6 @@ fn way_ended<A: Allocator>(cause: Cause) -> Way<A>
     match cause {
         Cause::End => Way::Leaving,
         _ => Way::Free,
-    }
-}
-
-fn is_changed(drive: &Option<DriveShown>) -> bool
-    ensures { result ≡ is_changed drive.now }
-{
-    match drive {
-        Some(shown) => shown.changed > 0,
-        None => false,
-    }
-}
-
-#[tactic(auto, unfolding(crate::specs::Steps::any_changed))]
-fn any_changed(drives: &[Option<DriveShown>]) -> bool
-    ensures { result ≡ any_changed drives.now }
-{
-    let mut rest = drives;
-    while let [first, after @ ..] = rest {
-        if is_changed(first) {
-            return true;
-        }
-        rest = after;
-    }
-    false
-}
-
-/// Whether a pack that is mounted was written.
-#[tactic(auto, unfolding(crate::specs::Steps::has_changed))]
-fn has_changed<A: Allocator>(answer: &Answer<A>) -> bool
-    ensures { result ≡ has_changed answer.now }
-{
-    match answer {
-        Answer::Devices(devices) => any_changed(&devices.bus.drives),
-        _ => false,
     }
 }
 

@@ -1,14 +1,14 @@
 // The files that lines wait for.
 ghost use Rattle.std.specs.Prelude.{◌≡◌, option_copied};
-ghost use Rattle.p11_console.specs.Files.{GivesLine, file_command, file_of, file_name, way_put};
+ghost use Rattle.p11_console.specs.Files.{GivesLine, file_command, file_of, file_name, way_missing};
 ghost use Rattle.p11_console.specs.Tries.{refused};
 ghost use Rattle.p11_panel.specs.Session.{fault_of};
 
-use crate::note::Note;
-use crate::reasons::note_of;
+use crate::reasons::{note_of, note_of_file};
 use crate::tries::{act, refused};
+use crate::trouble::Trouble;
 use crate::way::Way;
-use p11_lines::{Answer, Bytes, Fault, Line};
+use p11_lines::{Bytes, Fault, Line};
 use p11_panel::{Command, Panel, StoreError};
 use std::alloc::Allocator;
 
@@ -42,13 +42,32 @@ fn command_on<A: Allocator>(line: &Line<A>, bytes: Bytes<A>) -> Option<Command<A
 }
 
 /// The refusal of a line whose file can't be had.
-pub(crate) fn refuse<A: Allocator + Copy>(alloc: A, error: StoreError) -> Way<A>
-    ensures { result ≡ refused (Answer.Refused (fault_of error)) }
+fn refuse<A: Allocator + Copy>(alloc: A, name: &[u8], trouble: Trouble) -> Way<A>
+    ensures { result ≡ refused (Answer.Refused (fault_of trouble.error)) }
 {
-    match error {
-        StoreError::Refused => refused(alloc, Fault::StoreFault, note_of(alloc, Fault::StoreFault)),
+    match trouble.error {
+        StoreError::Refused => refused(
+            alloc,
+            Fault::StoreFault,
+            note_of_file(alloc, name, trouble.reason),
+        ),
         StoreError::NoMemory => refused(alloc, Fault::NoMemory, note_of(alloc, Fault::NoMemory)),
     }
+}
+
+/// What comes under way where a script can't be had.
+pub(crate) fn way_missing<A: Allocator + Copy>(
+    alloc: A,
+    is_all: bool,
+    name: &[u8],
+    trouble: Trouble,
+) -> Way<A>
+    ensures { result ≡ way_missing is_all trouble.error }
+{
+    if is_all {
+        return Way::Free;
+    }
+    refuse(alloc, name, trouble)
 }
 
 /// Does a line on its file: what comes under way.
@@ -58,33 +77,23 @@ pub(crate) fn give_line<A: Allocator + Copy>(
     panel: &mut Panel<A>,
     line: &Line<A>,
     text: Bytes<A>,
-    file: Result<Vec<u8, A>, StoreError>,
+    file: Result<Vec<u8, A>, Trouble>,
 ) -> Way<A>
     ensures { GivesLine (file_of file) line.now text panel.old result panel.new }
 {
     match file {
         Ok(bytes) => match command_on(line, Bytes::from_vec(bytes)) {
             Some(command) => act(alloc, panel, command, text),
-            None => refuse(alloc, StoreError::Refused),
+            None => refused(alloc, Fault::StoreFault, note_of(alloc, Fault::StoreFault)),
         },
-        Err(error) => refuse(alloc, error),
+        Err(trouble) => refuse(alloc, file_in(line), trouble),
     }
 }
 
-/// What comes under way once a file is written, or not.
-pub(crate) fn way_put<A: Allocator + Copy>(
-    alloc: A,
-    done: Result<(), StoreError>,
-    text: Bytes<A>,
-) -> Way<A>
-    ensures { result ≡ way_put done text }
-{
-    match done {
-        Ok(()) => Way::Telling {
-            answer: Answer::Done,
-            text,
-            note: Note::none(),
-        },
-        Err(_) => refuse(alloc, StoreError::Refused),
+/// The name of the file of a line, or none.
+fn file_in<A: Allocator>(line: &Line<A>) -> &[u8] {
+    match name_of(line) {
+        Some(name) => name,
+        None => b"",
     }
 }

@@ -1,57 +1,13 @@
 // What help says.
+use crate::forms::{Form, form_at};
 use crate::note::Topic;
 use crate::text::Text;
 use p11_phrases::WORDS;
 use std::alloc::Allocator;
 
-/// The form of each line, and what it does, by the word's place.
-const LINES: [(&str, &str); WORDS] = [
-    (
-        "mount DRIVE FILE rw|ro",
-        "mounts the pack in a file on a drive",
-    ),
-    (
-        "unmount DRIVE",
-        "takes the pack off a drive; what wasn't saved is lost",
-    ),
-    ("save DRIVE FILE", "writes the pack on a drive to a file"),
-    (
-        "changed DRIVE",
-        "shows which sectors of a drive were written",
-    ),
-    ("load FILE", "loads an absolute paper tape"),
-    ("examine ADDRESS [COUNT]", "shows words of the bus"),
-    ("deposit ADDRESS WORD ..", "writes words to the bus"),
-    (
-        "start ADDRESS",
-        "resets the devices, sets PC; talk runs the machine",
-    ),
-    ("key TEXT", "presses keys; \\015 is the key of code 015"),
-    ("tick", "lets the line clock tick once"),
-    (
-        "clock TURNS",
-        "lets the clock tick every so many turns; 0: no more",
-    ),
-    ("switches WORD", "sets the switch register"),
-    (
-        "set REGISTER WORD",
-        "sets 0 to 5, 6 (SP), 7 (PC), 10 (user's SP), 11 (PS)",
-    ),
-    ("step [TURNS]", "makes turns, one if no count is given"),
-    (
-        "continue [TURNS]",
-        "makes turns until it idles; with no count as talk",
-    ),
-    ("regs", "shows the registers"),
-    ("device", "shows the devices"),
-    ("flush", "drops what is kept to be quick; no answer changes"),
-    ("talk", "sits at the machine's terminal; Ctrl-E comes back"),
-    ("do FILE", "does the lines of a script"),
-    (
-        "help [WORD]",
-        "shows this list, or what there is about one word",
-    ),
-    ("quit", "leaves; tells first of packs that were written"),
+/// The order in which the list has the lines, by the places of their words.
+const ORDER: [usize; WORDS] = [
+    18, 14, 13, 7, 5, 6, 15, 12, 16, 11, 8, 9, 10, 0, 1, 2, 3, 4, 17, 19, 20, 21,
 ];
 
 /// How wide the list's first column is.
@@ -61,10 +17,16 @@ const COLUMN: usize = 26;
 pub(crate) fn help_on<A: Allocator>(alloc: A, topic: &Topic) -> Text<A> {
     let mut text = Text::new(alloc);
     match topic.place() {
-        Some(place) => add_line(&mut text, place),
+        Some(place) => {
+            if let Some(form) = form_at(place) {
+                add_all(&mut text, form);
+            }
+        }
         None => {
-            for place in 0..WORDS {
-                add_line(&mut text, place);
+            for place in &ORDER {
+                if let Some(form) = form_at(*place) {
+                    add_line(&mut text, form);
+                }
             }
             text.add(
                 b"Octal addresses, decimal counts. Beginnings will do. help WORD says more.\n",
@@ -74,14 +36,36 @@ pub(crate) fn help_on<A: Allocator>(alloc: A, topic: &Topic) -> Text<A> {
     text
 }
 
-fn add_line<A: Allocator>(text: &mut Text<A>, place: usize) {
-    let Some((form, deed)) = LINES.get(place) else {
-        return;
-    };
-    text.add(form.as_bytes());
-    for _ in form.len()..COLUMN {
+/// A line of the list.
+fn add_line<A: Allocator>(text: &mut Text<A>, form: &Form) {
+    text.add(form.shown.as_bytes());
+    for _ in form.shown.len()..COLUMN {
         text.add(b" ");
     }
-    text.add(deed.as_bytes());
+    text.add(form.deed.as_bytes());
     text.add(b"\n");
+}
+
+/// All that there is about one line.
+fn add_all<A: Allocator>(text: &mut Text<A>, form: &Form) {
+    text.add(form.shown.as_bytes());
+    add_field(text, "\n  ", form.deed);
+    for part in form.wanted {
+        add_field(text, "\n  with ", part.meaning());
+    }
+    if let Some((part, _)) = form.more {
+        add_field(text, "\n  then, if you like, ", part.meaning());
+    }
+    add_field(text, "\n  example: ", form.example);
+    if !form.short.is_empty() {
+        add_field(text, "\n  at a terminal also: ", form.short);
+    }
+    add_field(text, "\n  answers: ", form.answer);
+    text.add(b"\n");
+}
+
+/// A text, and what it is.
+fn add_field<A: Allocator>(text: &mut Text<A>, name: &str, field: &str) {
+    text.add(name.as_bytes());
+    text.add(field.as_bytes());
 }

@@ -8,7 +8,7 @@ use std::alloc::Allocator;
 
 /// Where the first LF is.
 #[tactic(auto, unfolding(crate::specs::Lines::is_line_feed))]
-fn line_end(text: &[u8]) -> Option<usize>
+pub(crate) fn line_end(text: &[u8]) -> Option<usize>
     ensures { result ≡ position is_line_feed text.now }
 {
     text.iter().position(|byte| *byte == b'\n')
@@ -16,7 +16,7 @@ fn line_end(text: &[u8]) -> Option<usize>
 
 /// A text without a CR at its end.
 #[tactic(auto, unfolding(p11_panel::specs::Script::without_cr))]
-fn without_return(text: &[u8]) -> &[u8]
+pub(crate) fn without_return(text: &[u8]) -> &[u8]
     ensures { result.now ≡ without_cr text.entry.now }
 {
     let len = text.len();

@@ -3,10 +3,11 @@ use p11_lines::Bytes;
 use std::alloc::{Allocator, Global};
 use std::marker::Model;
 
-/// What is said behind an answer. Contracts see nothing of it.
+/// What is said behind an answer, and the file that wasn't written. Contracts see nothing of it.
 #[derive(Drop)]
 pub struct Note<A: Allocator = Global> {
     text: Option<Bytes<A>>,
+    unwritten: Option<Bytes<A>>,
 }
 
 impl<A: Allocator> Model for Note<A> {
@@ -18,13 +19,33 @@ impl<A: Allocator> Model for Note<A> {
 impl<A: Allocator> Note<A> {
     /// Nothing.
     pub(crate) fn none() -> Self {
-        Note { text: None }
+        Note {
+            text: None,
+            unwritten: None,
+        }
     }
 
     /// This text.
     pub(crate) fn of(text: Vec<u8, A>) -> Self {
         Note {
             text: Some(Bytes::from_vec(text)),
+            unwritten: None,
+        }
+    }
+
+    /// This text, behind a line that would have written this file.
+    pub(crate) fn unwritten(text: Vec<u8, A>, name: Bytes<A>) -> Self {
+        Note {
+            text: Some(Bytes::from_vec(text)),
+            unwritten: Some(name),
+        }
+    }
+
+    /// The file that would have been written.
+    pub(crate) fn unwritten_name(&self) -> Option<&[u8]> {
+        match &self.unwritten {
+            Some(name) => Some(name.as_slice()),
+            None => None,
         }
     }
 

@@ -2,26 +2,27 @@
 use crate::note::Note;
 use crate::text::Text;
 use p11_lines::Fault;
+use p11_panel::Command;
 use std::alloc::Allocator;
 
 /// Why, by the fault.
 fn reason_of(fault: Fault) -> &'static str {
     match fault {
         Fault::NoDrive => "there are drives 0 to 7",
-        Fault::DriveEmpty => "no pack is mounted on the drive",
-        Fault::DriveTaken => "a pack is mounted on the drive: unmount takes it off",
-        Fault::ImageTooLong => "a pack has 2,494,464 bytes, and the file more",
-        Fault::OddAddress => "the address of a word is even",
-        Fault::NoAnswer => "nothing answers at an address",
-        Fault::DriveBusy => "the drive is busy: let the machine make some turns",
-        Fault::KeysFull => "64 keys may wait, and the machine hasn't taken those before",
+        Fault::DriveEmpty => "there is no pack on the drive; mount puts one there",
+        Fault::DriveTaken => "there is a pack on the drive; unmount takes it off",
+        Fault::ImageTooLong => "the file is longer than a pack, which has 2,494,464 bytes",
+        Fault::OddAddress => "a word has an even address",
+        Fault::NoAnswer => "no memory and no device answers at one of the addresses",
+        Fault::DriveBusy => "the drive moves sectors or seeks; let the machine make some turns",
+        Fault::KeysFull => "64 keys wait at most; let the machine take some",
         Fault::BadTape => "the file is no absolute tape",
-        Fault::TooMany => "there are too many or too few: help WORD tells how many may be",
+        Fault::TooMany => "a run has 1 to 100,000,000 turns",
         Fault::BadRegister => {
             "there are the registers 0 to 5, 6 (SP), 7 (PC), 10 (the user's SP) and 11 (status)"
         }
         Fault::NoMemory => "there is no memory left for it",
-        Fault::BadLine => "the line isn't in the console's language: help tells the lines",
+        Fault::BadLine => "the line isn't in the console's language",
         Fault::StoreFault => "the file can't be read or written",
         Fault::BadSize => "no machine has the size",
     }
@@ -39,10 +40,23 @@ pub(crate) fn note_of<A: Allocator>(alloc: A, fault: Fault) -> Note<A> {
     sentence(alloc, reason_of(fault))
 }
 
-/// Why a text is no line of the language.
-pub(crate) fn note_of_line<A: Allocator>(alloc: A, text: &[u8]) -> Note<A> {
-    if text.len() > 4096 {
-        return sentence(alloc, "the line has more than 4,096 bytes");
+/// Why a command is refused with this fault.
+pub(crate) fn note_for<A: Allocator>(alloc: A, fault: Fault, command: &Command<A>) -> Note<A> {
+    match (fault, command) {
+        (Fault::TooMany, Command::Examine { .. }) => sentence(alloc, "examine shows 1 to 512 words"),
+        (Fault::TooMany, Command::Deposit { .. }) => sentence(
+            alloc,
+            "deposit writes 1 to 64 words, and one alone at 760000 and up",
+        ),
+        _ => note_of(alloc, fault),
     }
-    note_of(alloc, Fault::BadLine)
+}
+
+/// Why a file can't be had or written.
+pub(crate) fn note_of_file<A: Allocator>(alloc: A, name: &[u8], reason: &str) -> Note<A> {
+    let mut text = Text::new(alloc);
+    text.add(name);
+    text.add(b": ");
+    text.add(reason.as_bytes());
+    Note::of(text.into_vec())
 }

@@ -1,6 +1,6 @@
 // A run of the machine that is made in slices, and what comes next in it.
 ghost use Rattle.std.specs.Prelude.{◌≡◌, position, if◌then◌else◌};
-ghost use Rattle.p11_console.specs.Runs.{run_of, talk_of, is_escape, has_escape, course_of, in_talk, pressed_on};
+ghost use Rattle.p11_console.specs.Runs.{run_of, talk_of, is_escape, is_interrupt, has_escape, has_interrupt, course_of, in_talk, without_keys, where_none_is_taken, pressed_on};
 
 /// A run: the turns that are left, those that the record lacks and all that were made, and how it goes on.
 #[derive(Clone, Copy)]
@@ -19,6 +19,8 @@ pub struct Run {
     pub stuck: u32,
     /// Whether the last byte that was typed ends a line, if there was any.
     pub is_fresh: bool,
+    /// Whether the last slice typed nothing.
+    pub is_quiet: bool,
 }
 
 /// What comes next in a run.
@@ -34,6 +36,8 @@ pub enum Course {
     Records,
     /// Ctrl-E ends it.
     Escapes,
+    /// Ctrl-C is told what ends it.
+    Hints,
     /// The end of the keyboard ends it.
     Ends,
     /// The machine idles, and no key waits that it takes.
@@ -41,7 +45,10 @@ pub enum Course {
 }
 
 /// Ctrl-E.
-pub(crate) const ESCAPE: u8 = 5;
+const ESCAPE: u8 = 5;
+
+/// Ctrl-C.
+const INTERRUPT: u8 = 3;
 
 /// The most turns of a line of the record, and of a run with a count.
 pub(crate) const MOST_TURNS: u32 = 100_000_000;
@@ -63,6 +70,7 @@ pub(crate) fn run_of(turns: u32, until_idle: bool) -> Run
         is_idle: false,
         stuck: 0,
         is_fresh: true,
+        is_quiet: false,
     }
 }
 
@@ -80,6 +88,7 @@ pub(crate) fn talk_of() -> Run
         is_idle: false,
         stuck: 0,
         is_fresh: true,
+        is_quiet: false,
     }
 }
 
@@ -91,16 +100,37 @@ pub(crate) fn escape_in(keys: &[u8]) -> Option<usize>
     keys.iter().position(|byte| *byte == ESCAPE)
 }
 
+/// Where the first Ctrl-C is.
+#[tactic(auto, unfolding(crate::specs::Runs::is_interrupt))]
+pub(crate) fn interrupt_in(keys: &[u8]) -> Option<usize>
+    ensures { result ≡ position is_interrupt keys.now }
+{
+    keys.iter().position(|byte| *byte == INTERRUPT)
+}
+
 fn has_escape(keys: &[u8]) -> bool
     ensures { result ≡ has_escape keys.now }
 {
     escape_in(keys).is_some()
 }
 
-/// What comes next in a run, with so many ticks that wait, these keys and so much room for them.
+fn has_interrupt(keys: &[u8]) -> bool
+    ensures { result ≡ has_interrupt keys.now }
+{
+    interrupt_in(keys).is_some()
+}
+
+/// What comes next in a run, with so many ticks that wait, these keys of a person or not, and so much room for them.
 #[tactic(auto, unfolding(crate::specs::Runs::course_of))]
-pub(crate) fn course_of(run: Run, ticks: u32, is_over: bool, keys: &[u8], room: u32) -> Course
-    ensures { result ≡ course_of run ticks is_over keys.now room }
+pub(crate) fn course_of(
+    run: Run,
+    is_person: bool,
+    ticks: u32,
+    is_over: bool,
+    keys: &[u8],
+    room: u32,
+) -> Course
+    ensures { result ≡ course_of run is_person ticks is_over keys.now room }
 {
     if ticks > 0 {
         return Course::Ticks;
@@ -109,23 +139,29 @@ pub(crate) fn course_of(run: Run, ticks: u32, is_over: bool, keys: &[u8], room: 
         return Course::Records;
     }
     if run.is_talk {
-        return in_talk(run, is_over, keys, room);
+        return in_talk(run, is_person, is_over, keys, room);
+    }
+    if !is_person {
+        return Course::Slices;
     }
     if has_escape(keys) {
         return Course::Escapes;
+    }
+    if has_interrupt(keys) {
+        return Course::Hints;
     }
     Course::Slices
 }
 
 #[tactic(auto, unfolding(crate::specs::Runs::in_talk))]
-fn in_talk(run: Run, is_over: bool, keys: &[u8], room: u32) -> Course
-    ensures { result ≡ in_talk run is_over keys.now room }
+fn in_talk(run: Run, is_person: bool, is_over: bool, keys: &[u8], room: u32) -> Course
+    ensures { result ≡ in_talk run is_person is_over keys.now room }
 {
     if keys.is_empty() {
-        if is_over {
-            return Course::Ends;
-        }
-        return slices_or_rests(run);
+        return without_keys(run, is_person, is_over);
+    }
+    if !is_person && !run.is_quiet {
+        return Course::Slices;
     }
     if keys[0] == ESCAPE {
         return Course::Escapes;
@@ -136,8 +172,28 @@ fn in_talk(run: Run, is_over: bool, keys: &[u8], room: u32) -> Course
     if !run.is_idle && run.stuck < PATIENCE {
         return Course::Slices;
     }
+    where_none_is_taken(run, is_over, keys)
+}
+
+/// What comes next in a talk where no key waits.
+fn without_keys(run: Run, is_person: bool, is_over: bool) -> Course
+    ensures { result ≡ without_keys run is_person is_over }
+{
+    if is_over && (is_person || run.is_quiet) {
+        return Course::Ends;
+    }
+    slices_or_rests(run)
+}
+
+/// What comes next in a talk where the machine takes no key.
+fn where_none_is_taken(run: Run, is_over: bool, keys: &[u8]) -> Course
+    ensures { result ≡ where_none_is_taken run is_over keys.now }
+{
     if has_escape(keys) {
         return Course::Escapes;
+    }
+    if is_over && run.is_idle {
+        return Course::Ends;
     }
     slices_or_rests(run)
 }
@@ -159,6 +215,7 @@ pub(crate) fn pressed_on(run: Run) -> Run
         made: 0,
         is_idle: false,
         stuck: 0,
+        is_quiet: false,
         ..run
     }
 }

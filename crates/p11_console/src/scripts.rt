@@ -1,6 +1,7 @@
-// Where a script's lines stand, which contracts don't see: it is told behind a refusal.
+// Where a script's lines stand, and which files weren't written, of which contracts see nothing: it is told.
+use crate::note::Note;
 use crate::text::Text;
-use p11_lines::Bytes;
+use p11_lines::{Answer, Bytes, Fault};
 use std::alloc::Allocator;
 
 /// The script whose lines are done, and what became of them.
@@ -10,10 +11,15 @@ pub(crate) struct Script<A: Allocator> {
     line: u64,
     /// Whether that line is the last that was begun at all.
     is_last: bool,
+    /// A front of it.
+    shown: Vec<u8, A>,
     /// How many were refused, and the number of the first.
     refused: u64,
     first: u64,
 }
+
+/// The most bytes of a line that are shown with its place.
+const MOST_SHOWN: usize = 200;
 
 impl<A: Allocator> Drop for Script<A> {
     fn drop(self) {
@@ -21,6 +27,7 @@ impl<A: Allocator> Drop for Script<A> {
             name,
             line: _,
             is_last: _,
+            shown: _,
             refused: _,
             first: _,
         } = self;
@@ -29,20 +36,28 @@ impl<A: Allocator> Drop for Script<A> {
 
 impl<A: Allocator> Script<A> {
     /// No line was begun.
-    pub(crate) fn of(name: Bytes<A>) -> Self {
+    pub(crate) fn of(alloc: A, name: Bytes<A>) -> Self {
         Script {
             name,
             line: 0,
             is_last: false,
+            shown: Vec::new(alloc),
             refused: 0,
             first: 0,
         }
     }
 
     /// Its next line is begun.
-    pub(crate) fn begin_line(&mut self) {
+    pub(crate) fn begin_line(&mut self, line: &[u8]) {
         self.line = self.line.saturating_add(1);
         self.is_last = true;
+        self.shown.clear();
+        let _ = self
+            .shown
+            .extend_from_slice(&line[..line.len().min(MOST_SHOWN)]);
+        if line.len() > MOST_SHOWN {
+            let _ = self.shown.extend_from_slice(b" ..");
+        }
     }
 
     /// Another line is begun.
@@ -50,20 +65,55 @@ impl<A: Allocator> Script<A> {
         self.is_last = false;
     }
 
-    /// The last line is refused: where it stands, if it is the script's.
-    pub(crate) fn refuse(&mut self, text: &mut Text<A>) {
-        if !self.is_last {
+    /// Adds what is said behind an answer at the console: of a script's line also where it stands.
+    pub(crate) fn add_note(&mut self, text: &mut Text<A>, answer: &Answer<A>, note: &Note<A>) {
+        let is_refused = self.count(answer);
+        if note.as_slice().is_empty() {
             return;
         }
-        if self.refused == 0 {
-            self.first = self.line;
+        text.add(b"  ");
+        if self.is_last && is_refused {
+            self.add_place(text, self.line);
+            text.add(b": ");
         }
-        self.refused = self.refused.saturating_add(1);
-        self.add_place(text, self.line);
-        text.add(b": ");
+        text.add(note.as_slice());
+        text.add(b".\n");
     }
 
-    /// How many lines were refused, once.
+    /// Adds what is said of a line of a script that is all, apart from the answers.
+    pub(crate) fn add_remark(&mut self, text: &mut Text<A>, answer: &Answer<A>, note: &Note<A>) {
+        let _ = self.count(answer);
+        if note.as_slice().is_empty() {
+            return;
+        }
+        self.add_place(text, self.line);
+        text.add(b": ");
+        text.add_clean(self.shown.as_slice());
+        text.add(b": ");
+        if let Answer::Refused(fault) = answer {
+            add_fault(text, *fault);
+        }
+        text.add(note.as_slice());
+        text.add(b"\n");
+    }
+
+    /// Counts an answer to one of its lines; whether it is a refusal.
+    fn count(&mut self, answer: &Answer<A>) -> bool {
+        match answer {
+            Answer::Refused(_) => {
+                if self.is_last {
+                    if self.refused == 0 {
+                        self.first = self.line;
+                    }
+                    self.refused = self.refused.saturating_add(1);
+                }
+                true
+            }
+            _ => false,
+        }
+    }
+
+    /// Adds how many lines were refused, once.
     pub(crate) fn end(&mut self, text: &mut Text<A>) {
         if self.refused == 0 {
             return;
@@ -84,4 +134,13 @@ impl<A: Allocator> Script<A> {
         text.add(b":");
         text.add_number(line);
     }
+}
+
+/// A refusal as an answer has it.
+fn add_fault<A: Allocator>(text: &mut Text<A>, fault: Fault) {
+    text.add(b"? ");
+    text.add_number(u64::from(fault.number()));
+    text.add(b" ");
+    text.add(fault.name().as_bytes());
+    text.add(b": ");
 }

@@ -1,14 +1,15 @@
 // Slices of a run, and what comes behind them.
-ghost use Rattle.std.specs.Prelude.{◌≡◌, ◌++◌, ◌+◌, ◌-◌, ◌≤◌, min, max, length, drop, take, position, nat_eq, slice_index, IfOk, OnOk, OnErr};
+ghost use Rattle.std.specs.Prelude.{◌≡◌, ◌++◌, ◌+◌, ◌-◌, ◌≤◌, min, max, length, drop, take, position, nat_eq, slice_index, unwrap_or, IfOk, OnOk, OnErr};
 ghost use Rattle.p11_panel.specs.Commands.{CommandStep};
 ghost use Rattle.p11_panel.specs.Calls.Runs.{run_command};
-ghost use Rattle.p11_console.specs.Runs.{given_keys, behind_escape, slice_turns, at_slice, is_fresh_behind, is_idling, next_run, goes_on, typed_in, is_escape};
+ghost use Rattle.p11_console.specs.Runs.{before_escape, given_keys, behind_escape, without_interrupt, slice_turns, at_slice, is_fresh_behind, is_idling, next_run, goes_on, typed_in, is_escape};
 ghost use Rattle.p11_console.specs.Steps.{way_stopped, way_behind};
 
 use crate::buffer::Buffer;
 use crate::note::Note;
 use crate::record::record_run;
-use crate::run::{MOST_TURNS, Run, escape_in};
+use crate::lines::{line_end, without_return};
+use crate::run::{MOST_TURNS, Run, escape_in, interrupt_in};
 use crate::stop::{Cause, stop_of};
 use crate::way::Way;
 use p11_lines::{Answer, NoMemory, StopReason};
@@ -18,16 +19,60 @@ use std::alloc::Allocator;
 /// Turns of a slice at most where keys wait: the 64 that the machine holds take 64 turns each.
 const KEY_TURNS: u32 = 4096;
 
-/// The keys that the machine is given.
-#[tactic(auto, unfolding(crate::specs::Runs::given_keys))]
-pub(crate) fn given_keys(keys: &[u8], room: u32) -> &[u8]
-    ensures keys { result.now ≡ given_keys keys.entry.now room }
+/// Keys that the machine is given, and how many of those that wait they are.
+#[derive(Drop)]
+pub(crate) struct Given<A: Allocator> {
+    pub(crate) keys: Vec<u8, A>,
+    pub(crate) count: usize,
+}
+
+/// The keys before a Ctrl-E.
+fn before_escape(keys: &[u8]) -> &[u8]
+    ensures keys { result.now ≡ before_escape keys.entry.now }
     ensures within { length result.now ≤ length keys.entry.now }
 {
-    let front = &keys[..keys.len().min(room as usize)];
-    match escape_in(front) {
-        Some(place) => &front[..place],
-        None => front,
+    match escape_in(keys) {
+        Some(place) => &keys[..place],
+        None => &keys[..keys.len()],
+    }
+}
+
+/// The keys that the machine is given, of a person or a program, with so much room for them.
+#[tactic(auto, unfolding(crate::specs::Runs::given_keys))]
+pub(crate) fn given_keys<A: Allocator>(
+    alloc: A,
+    is_person: bool,
+    keys: &[u8],
+    room: u32,
+) -> Result<Given<A>, NoMemory>
+    ensures given { IfOk result (λ given. (given.keys.items, given.count) ≡ given_keys is_person keys.now room) }
+    ensures within { IfOk result (λ given. given.count ≤ length keys.now) }
+{
+    let front = before_escape(&keys[..keys.len().min(room as usize)]);
+    let mut given = Vec::new(alloc);
+    if is_person {
+        given.extend_from_slice(front)?;
+        return Ok(Given {
+            keys: given,
+            count: front.len(),
+        });
+    }
+    match line_end(front) {
+        Some(place) => {
+            given.extend_from_slice(without_return(&front[..place]))?;
+            given.extend_from_slice(b"\r")?;
+            Ok(Given {
+                keys: given,
+                count: place + 1,
+            })
+        }
+        None => {
+            given.extend_from_slice(front)?;
+            Ok(Given {
+                keys: given,
+                count: front.len(),
+            })
+        }
     }
 }
 
@@ -46,6 +91,16 @@ pub(crate) fn take_escape<A: Allocator>(keys: &mut Buffer<A>, is_talk: bool)
     if is_talk {
         keys.drop_front(place + 1);
     } else {
+        keys.remove(place);
+    }
+}
+
+/// Takes the first Ctrl-C.
+#[tactic(auto, unfolding(crate::specs::Runs::without_interrupt))]
+pub(crate) fn take_interrupt<A: Allocator>(keys: &mut Buffer<A>)
+    ensures { keys.new ≡ without_interrupt keys.old }
+{
+    if let Some(place) = interrupt_in(keys.as_slice()) {
         keys.remove(place);
     }
 }
@@ -77,7 +132,8 @@ pub(crate) fn at_slice(has_keys: bool, run: Run) -> Run
     Run { stuck, ..run }
 }
 
-fn run_of<A: Allocator>(until_idle: bool, turns: u32) -> Command<A>
+/// The command of a run.
+pub(crate) fn run_command<A: Allocator>(until_idle: bool, turns: u32) -> Command<A>
     ensures { result ≡ run_command until_idle turns }
 {
     if until_idle {
@@ -98,7 +154,7 @@ pub(crate) fn slice<A: Allocator + Copy>(
     ensures { CommandStep panel.old (run_command run.until_idle (slice_turns run has_keys turns)) result panel.new }
 {
     let turns = slice_turns(run, has_keys, turns);
-    panel.act(alloc, &run_of(run.until_idle, turns))
+    panel.act(alloc, &run_command(run.until_idle, turns))
 }
 
 /// Whether the last byte ends a line.
@@ -129,6 +185,7 @@ fn next_run(run: Run, typed: &[u8], reason: StopReason, turns: u32) -> Run
         total: run.total.saturating_add(u64::from(turns)),
         is_idle: is_idling(reason),
         is_fresh: is_fresh_behind(run.is_fresh, typed),
+        is_quiet: is_idling(reason) || typed.is_empty(),
         ..run
     }
 }

@@ -1,4 +1,4 @@
-use crate::{Console, Want};
+use crate::{Console, Manner, PutFault, Settings, Trouble, Want};
 use p11_panel::{Config, Panel, StoreError};
 
 /// What comes to a console.
@@ -33,7 +33,13 @@ fn console_of(rt: &HostRuntime) -> Option<Console> {
     let Ok(panel) = Panel::new(rt.alloc(), config) else {
         return None;
     };
-    Some(Console::new(rt.alloc(), panel))
+    let settings = Settings {
+        manner: Manner::Typed,
+        is_strict: false,
+        is_saveless: false,
+        is_talk: false,
+    };
+    Some(Console::new(rt.alloc(), panel, settings))
 }
 
 /// Steps on while there is something to do: what the console wants then.
@@ -68,7 +74,11 @@ fn give(rt: &HostRuntime, console: &mut Console, event: Event) -> bool {
         }
         Event::NoFile(name) => {
             let is_named = console.name() == Some(name);
-            console.fetched(rt.alloc(), Err(StoreError::Refused));
+            let trouble = Trouble {
+                error: StoreError::Refused,
+                reason: "no such file",
+            };
+            console.fetched(rt.alloc(), Err(trouble));
             is_named
         }
         Event::Names(front, names) => {
@@ -100,7 +110,20 @@ fn goes(rt: &HostRuntime, row: &Row, turns: u32) -> bool {
         }
         want = rest(rt, &mut console, turns);
     }
-    console.screen() == row.screen && console.record() == row.record && want == row.want
+    let is_right =
+        console.screen() == row.screen && console.record() == row.record && want == row.want;
+    if !is_right {
+        show(rt, console.screen());
+        show(rt, console.record());
+    }
+    is_right
+}
+
+/// Prints what came in place of what is written down.
+fn show(rt: &HostRuntime, bytes: &[u8]) {
+    if let Ok(text) = str::from_utf8(bytes) {
+        let _ = rt.print(text);
+    }
 }
 
 const ROWS: [Row; 12] = [
@@ -130,7 +153,7 @@ const ROWS: [Row; 12] = [
     // refusals aren't recorded
     Row {
         events: &[Event::Keys(b"start 1001\rstep 0\rfrobnicate\r")],
-        screen: b"p11> start 1001\n? 5 OddAddress\n  the address of a word is even.\np11> step 0\n? 13 BadLine\n  the line isn't in the console's language: help tells the lines.\np11> frobnicate\n? 13 BadLine\n  the line isn't in the console's language: help tells the lines.\np11> ",
+        screen: b"p11> start 1001\n? 5 OddAddress\n  a word has an even address.\np11> step 0\n? 13 BadLine\n  \"0\" isn't a count: one to nine decimal digits, not 0: the line is step [TURNS].\np11> frobnicate\n? 13 BadLine\n  \"frobnicate\" is no word of the console; help lists those that are.\np11> ",
         record: b"",
         want: Want::Keys,
     },
@@ -156,7 +179,7 @@ const ROWS: [Row; 12] = [
             Event::Keys(b"mount 2 c ro\r"),
             Event::NoFile(b"c"),
         ],
-        screen: b"p11> mount 1 a rw\nOK\np11> save 1 b\nOK\np11> mount 2 c ro\n? 14 StoreFault\n  the file can't be read or written.\np11> ",
+        screen: b"p11> mount 1 a rw\nOK\np11> save 1 b\nOK\np11> mount 2 c ro\n? 14 StoreFault\n  c: no such file.\np11> ",
         record: b"mount 1 a rw\nsave 1 b\n",
         want: Want::Keys,
     },
@@ -166,7 +189,7 @@ const ROWS: [Row; 12] = [
             Event::Keys(b"do s\r"),
             Event::File(b"s", b"switches 1\r\nquit\n\nswitches 2"),
         ],
-        screen: b"p11> do s\nOK\n? 13 BadLine\n  s:2: the line isn't in the console's language: help tells the lines.\nOK\n1 line refused: s:2\np11> ",
+        screen: b"p11> do s\nOK\n? 13 BadLine\n  s:2: quit is for a person at the console, and not for a script.\nOK\n1 line refused: s:2\np11> ",
         record: b"switches 1\nswitches 2\n",
         want: Want::Keys,
     },
@@ -201,7 +224,7 @@ const ROWS: [Row; 12] = [
             Event::Names(b"pa", &[b"other", b"pack.a", b"pack.b"]),
             Event::NoFile(b"pack."),
         ],
-        screen: b"p11> load pa\rp11> load pack.\x1b[K\rp11> load pack.\n? 14 StoreFault\n  the file can't be read or written.\np11> ",
+        screen: b"p11> load pa\rp11> load pack.\x1b[K\rp11> load pack.\n? 14 StoreFault\n  pack.: no such file.\np11> ",
         record: b"",
         want: Want::Keys,
     },

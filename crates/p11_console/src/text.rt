@@ -27,6 +27,21 @@ impl<A: Allocator> Text<A> {
         self.add(digits.format(number).as_bytes());
     }
 
+    /// Bytes more, of which those that are no graphic character or space are shown as `?`.
+    pub(crate) fn add_clean(&mut self, bytes: &[u8]) {
+        for byte in bytes {
+            let is_shown = b' ' <= *byte && *byte <= b'~';
+            self.add(&[if is_shown { *byte } else { b'?' }]);
+        }
+    }
+
+    /// A word more in quotation marks.
+    pub(crate) fn add_quoted(&mut self, word: &[u8]) {
+        self.add(b"\"");
+        self.add_clean(word);
+        self.add(b"\"");
+    }
+
     pub(crate) fn as_slice(&self) -> &[u8] {
         self.bytes.as_slice()
     }

@@ -3,13 +3,20 @@ ghost use Rattle.std.specs.Prelude.{◌≡◌, [], IfOk, OnErr};
 ghost use Rattle.p11_panel.specs.Session.{is_silent, has_answer};
 ghost use Rattle.p11_panel.specs.Commands.{CommandStep};
 ghost use Rattle.p11_console.specs.Own.{name_of};
-ghost use Rattle.p11_console.specs.Tries.{Tries, TriesLine, Acts, Saves, way_saved, run_begun, command_of, DoesLine};
+ghost use Rattle.p11_console.specs.Tries.{Tries, TriesLine, TriesRun, Acts, Saves, way_saved, run_begun, command_of, DoesLine};
+ghost use Rattle.p11_console.specs.Record.{ended};
 
 use crate::note::{Note, Topic};
 use crate::own::{Own, name_of, own_of, verb_and_rest};
-use crate::reasons::{note_of, note_of_line};
+use crate::files::name_of as file_name;
+use crate::misfit::why_no_line;
+use crate::reasons::{note_for, note_of};
 use crate::record::{record_line, recorded};
 use crate::run::{MOST_TURNS, run_of, talk_of};
+use crate::settings::Trying;
+use crate::slices::run_command;
+use crate::tapes::note_of_tape;
+use crate::text::Text;
 use crate::way::Way;
 use p11_lines::{Answer, Bytes, Fault, Line, NoMemory, parse_line};
 use p11_panel::{Command, Panel};
@@ -84,6 +91,20 @@ fn note_behind<A: Allocator + Copy>(alloc: A, answer: &Answer<A>) -> Note<A> {
     }
 }
 
+/// What is said behind the answer of a command: of a tape also what is wrong with its bytes.
+fn note_on<A: Allocator + Copy>(alloc: A, answer: &Answer<A>, command: &Command<A>) -> Note<A> {
+    match command {
+        Command::Load { tape } => match note_of_tape(alloc, tape.as_slice()) {
+            Some(note) => note,
+            None => note_behind(alloc, answer),
+        },
+        _ => match answer {
+            Answer::Refused(fault) => note_for(alloc, *fault, command),
+            _ => Note::none(),
+        },
+    }
+}
+
 /// Does a command, whose line has this text in the record.
 #[tactic(auto, unfolding(crate::specs::Tries::Acts))]
 pub(crate) fn act<A: Allocator + Copy>(
@@ -96,22 +117,48 @@ pub(crate) fn act<A: Allocator + Copy>(
 {
     let answer = panel.act(alloc, &command);
     let text = recorded(alloc, &answer, text);
-    let note = note_behind(alloc, &answer);
+    let note = note_on(alloc, &answer, &command);
     Way::Telling { answer, text, note }
+}
+
+/// That a line writes no file.
+fn unwritten<A: Allocator + Copy>(alloc: A, line: &Line<A>) -> Note<A> {
+    let mut name = Text::new(alloc);
+    if let Some(bytes) = file_name(line) {
+        name.add(bytes);
+    }
+    let mut text = Text::new(alloc);
+    text.add(b"nothing is written: --no-save");
+    Note::unwritten(text.into_vec(), Bytes::from_vec(name.into_vec()))
 }
 
 /// What comes behind an answer of SAVE.
 #[tactic(auto, unfolding(crate::specs::Tries::way_saved))]
 fn way_saved<A: Allocator + Copy>(
     alloc: A,
+    how: Trying,
     line: Line<A>,
     text: Bytes<A>,
     answer: Answer<A>,
 ) -> Way<A>
-    ensures { result ≡ way_saved line text answer }
+    ensures { result ≡ way_saved how line text answer }
 {
     match answer {
-        Answer::Image(image) => Way::Putting { line, image, text },
+        Answer::Image(image) => {
+            if how.is_saveless {
+                return Way::Telling {
+                    answer: Answer::Done,
+                    text: Bytes::from_vec(Vec::new(alloc)),
+                    note: unwritten(alloc, &line),
+                };
+            }
+            Way::Putting {
+                line,
+                image,
+                text,
+                is_agreed: !how.is_asking,
+            }
+        }
         answer => {
             let text = recorded(alloc, &answer, text);
             let note = note_behind(alloc, &answer);
@@ -125,14 +172,35 @@ fn way_saved<A: Allocator + Copy>(
 fn save<A: Allocator + Copy>(
     alloc: A,
     panel: &mut Panel<A>,
+    how: Trying,
     drive: u32,
     line: Line<A>,
     text: Bytes<A>,
 ) -> Way<A>
-    ensures { Saves drive line text panel.old result panel.new }
+    ensures { Saves how drive line text panel.old result panel.new }
 {
     let answer = panel.act(alloc, &Command::Save { drive });
-    way_saved(alloc, line, text, answer)
+    way_saved(alloc, how, line, text, answer)
+}
+
+/// Does the line of a run.
+#[tactic(auto, unfolding(crate::specs::Tries::TriesRun))]
+fn try_run<A: Allocator + Copy>(
+    alloc: A,
+    panel: &mut Panel<A>,
+    how: Trying,
+    line: Line<A>,
+    turns: u32,
+    until_idle: bool,
+) -> Result<Way<A>, NoMemory>
+    ensures ok { IfOk result (λ way. TriesRun how line turns until_idle panel.old way panel.new) }
+    ensures err { OnErr result (panel.new ≡ panel.old) }
+{
+    if how.is_whole {
+        let text = record_line(alloc, &line)?;
+        return Ok(act(alloc, panel, run_command(until_idle, turns), text));
+    }
+    Ok(begin_run(alloc, turns, until_idle))
 }
 
 /// Does a line of the language.
@@ -140,18 +208,21 @@ fn save<A: Allocator + Copy>(
 fn try_line<A: Allocator + Copy>(
     alloc: A,
     panel: &mut Panel<A>,
+    how: Trying,
     line: Line<A>,
 ) -> Result<Way<A>, NoMemory>
-    ensures ok { IfOk result (λ way. TriesLine line panel.old way panel.new) }
+    ensures ok { IfOk result (λ way. TriesLine how line panel.old way panel.new) }
     ensures err { OnErr result (panel.new ≡ panel.old) }
 {
     match line {
-        Line::Step { turns } => Ok(begin_run(alloc, turns, false)),
-        Line::Continue { turns } => Ok(begin_run(alloc, turns, true)),
+        Line::Step { turns } => try_run(alloc, panel, how, Line::Step { turns }, turns, false),
+        Line::Continue { turns } => {
+            try_run(alloc, panel, how, Line::Continue { turns }, turns, true)
+        }
         Line::Save { drive, name } => {
             let line = Line::Save { drive, name };
             let text = record_line(alloc, &line)?;
-            Ok(save(alloc, panel, drive, line, text))
+            Ok(save(alloc, panel, how, drive, line, text))
         }
         line => {
             let text = record_line(alloc, &line)?;
@@ -168,18 +239,19 @@ fn try_line<A: Allocator + Copy>(
 pub(crate) fn try_text<A: Allocator + Copy>(
     alloc: A,
     panel: &mut Panel<A>,
+    how: Trying,
     text: &[u8],
 ) -> Result<Way<A>, NoMemory>
-    ensures ok { IfOk result (λ way. Tries text.now panel.old way panel.new) }
+    ensures ok { IfOk result (λ way. Tries how text.now panel.old way panel.new) }
     ensures err { OnErr result (panel.new ≡ panel.old) }
 {
     if text.len() <= 4096 && is_silent(text) {
         return Ok(Way::Free);
     }
     match parse_line(alloc, text) {
-        Ok(line) => try_line(alloc, panel, line),
+        Ok(line) => try_line(alloc, panel, how, line),
         Err(Fault::NoMemory) => Err(NoMemory),
-        Err(fault) => Ok(refused(alloc, fault, note_of_line(alloc, text))),
+        Err(fault) => Ok(refused(alloc, fault, why_no_line(alloc, text))),
     }
 }
 
@@ -207,9 +279,10 @@ fn open_script<A: Allocator>(alloc: A, line: &[u8]) -> Result<Way<A>, NoMemory>
 pub(crate) fn do_line<A: Allocator + Copy>(
     alloc: A,
     panel: &mut Panel<A>,
+    how: Trying,
     line: &[u8],
 ) -> Result<Way<A>, NoMemory>
-    ensures ok { IfOk result (λ way. DoesLine line.now panel.old way panel.new) }
+    ensures ok { IfOk result (λ way. DoesLine how line.now panel.old way panel.new) }
     ensures err { OnErr result (panel.new ≡ panel.old) }
 {
     match own_of(line) {
@@ -218,6 +291,6 @@ pub(crate) fn do_line<A: Allocator + Copy>(
         Own::Quit => Ok(Way::Leaving),
         Own::Help => Ok(Way::Helping(topic_of(line))),
         Own::Do => open_script(alloc, line),
-        Own::Language => try_text(alloc, panel, line),
+        Own::Language => try_text(alloc, panel, how, line),
     }
 }

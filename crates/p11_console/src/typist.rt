@@ -1,10 +1,12 @@
 // Who types lines: the keys so far, the line, and the lines before it.
-ghost use Rattle.std.specs.Prelude.{◌≡◌, map, OnOk, OnErr};
-ghost use Rattle.p11_console.specs.Typing.{by_key, taken, fresh, rested, line_of, kept_line, outcome_way, CompletedBy};
+ghost use Rattle.std.specs.Prelude.{◌≡◌, map, OnOk, OnErr, IfOk};
+ghost use Rattle.p11_console.specs.Typing.{by_key, taken, fresh, rested, line_of, kept_line, past_of, outcome_way, CompletedBy};
+ghost use Rattle.p11_line_editor.specs.History.{remembered};
 
 use crate::own::verb_and_rest;
 use crate::way::Way;
 use p11_line_editor::{Decoder, Editor, History, Key, Outcome};
+use p11_lines::NoMemory;
 use std::alloc::{AllocError, Allocator, Global};
 
 /// Who types lines: the keys so far, the line, and the lines before it.
@@ -90,6 +92,28 @@ impl<A: Allocator> Typist<A> {
         ensures { self.new ≡ line_of self.old }
     {
         self.editor.begin();
+    }
+
+    /// A line of an earlier dialogue.
+    pub(crate) fn remember(&mut self, alloc: A, line: &[u8]) -> Result<(), AllocError>
+        ensures ok { OnOk result (self.new ≡ record self.old { history = remembered line.now self.old.history }) }
+        ensures err { OnErr result (self.new ≡ self.old) }
+    {
+        self.history.remember(alloc, line)
+    }
+
+    /// The text of the line that is ended for the history's file, if it has a word.
+    #[tactic(auto, unfolding(crate::specs::Typing::past_of))]
+    pub(crate) fn past_text(&self, alloc: A) -> Result<Vec<u8, A>, NoMemory>
+        ensures { IfOk result (λ text. text.items ≡ past_of self.now) }
+    {
+        let mut text = Vec::new(alloc);
+        if verb_and_rest(self.editor.text()).0.is_empty() {
+            return Ok(text);
+        }
+        text.extend_from_slice(self.editor.text())?;
+        text.extend_from_slice(b"\n")?;
+        Ok(text)
     }
 
     /// Keeps the line that is ended, if it has a word.

@@ -47,8 +47,15 @@ pub enum Way<A: Allocator = Global> {
         line: Line<A>,
         text: Bytes<A>,
     },
-    /// A line waits until a file has these bytes; the record has this text of it.
+    /// A line waits until a file has these bytes, which may be there already if that is agreed; the record has this text of it.
     Putting {
+        line: Line<A>,
+        image: Bytes<A>,
+        text: Bytes<A>,
+        is_agreed: bool,
+    },
+    /// A person is asked whether a file that is there is written over.
+    Asking {
         line: Line<A>,
         image: Bytes<A>,
         text: Bytes<A>,
