@@ -14,8 +14,8 @@ is_batch Batch = true
 is_batch _ = false
 
 -- a person is asked before a file is written over, but by a line of a script
-unfoldable pub trying : Settings → Bool → Trying
-trying settings is_scripted =
+unfoldable pub tried_by : Settings → Bool → Trying
+tried_by settings is_scripted =
     record {
       is_whole = is_batch settings.manner;
       is_saveless = settings.is_saveless;

@@ -17,7 +17,7 @@ use Rattle.p11_phrases.specs.declared.place.Place.{Place}
 use Rattle.p11_phrases.specs.declared.refusal.Refusal.{Refusal}
 use Rattle.p11_phrases.specs.Phrases.{meaning}
 use Rattle.p11_console.specs.Lines.{first_line, behind_line, is_line_feed}
-use Rattle.p11_console.specs.Manner.{is_person, is_batch, trying}
+use Rattle.p11_console.specs.Manner.{is_person, is_batch, tried_by}
 use Rattle.p11_console.specs.Own.{own_of}
 use Rattle.p11_console.specs.Record.{run_text, keys_text, tick_text}
 use Rattle.p11_console.specs.Runs.{talk_of, course_of, given_keys, behind_escape, without_interrupt, slice_turns, at_slice, pressed_on, recorded_on, next_run, goes_on, typed_in}
@@ -62,7 +62,7 @@ still_warned is_warned line = is_warned && is_quit (own_of line)
 -- the first of the lines that the typed one means is said and done, and is gone
 abbrev pub DoesMeant : {A : Type 0} → ConsoleState A → ConsoleState A → Type 0
 DoesMeant c c' =
-    DoesLine (trying c.settings false) (first_line c.lines) c.machine c'.way c'.machine × Says c.screen c'.screen
+    DoesLine (tried_by c.settings false) (first_line c.lines) c.machine c'.way c'.machine × Says c.screen c'.screen
     × (c' ≡ record c {
       machine = c'.machine;
       lines = behind_line c.lines;
@@ -75,7 +75,7 @@ DoesMeant c c' =
 -- the first line of the script is done, and is gone
 abbrev pub DoesScripted : {A : Type 0} → ConsoleState A → ConsoleState A → Type 0
 DoesScripted c c' =
-    Tries (trying c.settings true) (first_line c.script) c.machine c'.way c'.machine
+    Tries (tried_by c.settings true) (first_line c.script) c.machine c'.way c'.machine
     × (c' ≡ record c {
       machine = c'.machine;
       script = behind_line c.script;
@@ -128,7 +128,7 @@ has_given is_over waiting = is_some (position is_line_feed waiting) || (is_over 
 -- the first line that a program has given is done
 abbrev pub DoesGiven : {A : Type 0} → ConsoleState A → ConsoleState A → Type 0
 DoesGiven c c' =
-    DoesLine (trying c.settings false) (first_line c.waiting) c.machine c'.way c'.machine × Says c.screen c'.screen
+    DoesLine (tried_by c.settings false) (first_line c.waiting) c.machine c'.way c'.machine × Says c.screen c'.screen
     × (c' ≡ record c {
       machine = c'.machine;
       waiting = behind_line c.waiting;
@@ -157,7 +157,7 @@ Completes c c' =
 -- a line is done as it stands, or the lines in its place are done next
 abbrev pub DoesPhrase : {A : Type 0} → Option (List ℕ) → Place → List ℕ → ConsoleState A → ConsoleState A → Type 0
 DoesPhrase None place line c c' =
-    DoesLine (trying c.settings false) line c.machine c'.way c'.machine × Says c.screen c'.screen
+    DoesLine (tried_by c.settings false) line c.machine c'.way c'.machine × Says c.screen c'.screen
     × (c' ≡ record c {
       machine = c'.machine;
       place = place;

@@ -3,7 +3,7 @@ ghost use Rattle.std.specs.Prelude.{◌≡◌, ◌++◌, ◌≤◌, ◌+◌, ◌
 ghost use Rattle.p11_line_editor.specs.Completion.{word_of};
 ghost use Rattle.p11_lines.specs.AnswerText.{text_of};
 ghost use Rattle.p11_cpu.specs.OperatorDevices.{room_of};
-ghost use Rattle.p11_console.specs.Files.{Gives, Takes, TakesPut, Names, file_of, wanted, image_in, may_replace, way_missing};
+ghost use Rattle.p11_console.specs.Files.{Gives, Takes, TakesPut, Names, file_of, wanted, image_in, may_replace, opening, way_missing};
 ghost use Rattle.p11_console.specs.Manner.{is_person, is_batch};
 ghost use Rattle.p11_console.specs.Runs.{talk_of};
 ghost use Rattle.p11_console.specs.Said.{Says, SaysBefore};
@@ -26,7 +26,7 @@ use crate::reasons::note_of_file;
 use crate::record::{record_keys, record_run, record_tick};
 use crate::run::{Course, Run, course_of, pressed_on, talk_of};
 use crate::scripts::Script;
-use crate::settings::{Settings, is_batch, is_person, trying};
+use crate::settings::{Settings, is_batch, is_person, tried_by};
 use crate::slices::{at_slice, given_keys, show_slice, slice, take_escape, take_interrupt};
 use crate::stop::{Cause, Stop, put_stop, stop_of};
 use crate::text::Text;
@@ -173,14 +173,16 @@ impl<A: Allocator + Copy> Console<A> {
 
     /// The lines of the file of this name come next, where nothing is under way.
     pub fn open(&mut self, alloc: A, name: &[u8]) -> Result<(), NoMemory>
-        ensures ok { OnOk result (self.new ≡ record self.old { way = Way.Opening name.now }) }
+        ensures ok { OnOk result (self.new ≡ record self.old { way = opening name.now self.old.way }) }
         ensures err { OnErr result (self.new ≡ self.old) }
     {
         let mut copy = Vec::new(alloc);
         copy.extend_from_slice(name)?;
-        self.way.set(Way::Opening {
-            name: Bytes::from_vec(copy),
-        });
+        if let Way::Free = self.way.get() {
+            self.way.set(Way::Opening {
+                name: Bytes::from_vec(copy),
+            });
+        }
         Ok(())
     }
 
@@ -687,7 +689,7 @@ impl<A: Allocator + Copy> Console<A> {
         ensures same { OnErr result (self.new ≡ self.old) }
     {
         let line = first_line(self.lines.as_slice());
-        let way = do_line(alloc, &mut self.panel, trying(self.settings, false), line)?;
+        let way = do_line(alloc, &mut self.panel, tried_by(self.settings, false), line)?;
         self.is_warned = still_warned(self.is_warned, line);
         self.is_scripted = false;
         self.source.leave_line();
@@ -704,7 +706,7 @@ impl<A: Allocator + Copy> Console<A> {
         ensures err { IfErr result (λ want. want ≡ Want.Memory) }
         ensures same { OnErr result (self.new ≡ self.old) }
     {
-        let how = trying(self.settings, true);
+        let how = tried_by(self.settings, true);
         let way = try_text(
             alloc,
             &mut self.panel,
@@ -778,7 +780,7 @@ impl<A: Allocator + Copy> Console<A> {
         ensures same { OnErr result (self.new ≡ self.old) }
     {
         let line = first_line(self.waiting.as_slice());
-        let way = do_line(alloc, &mut self.panel, trying(self.settings, false), line)?;
+        let way = do_line(alloc, &mut self.panel, tried_by(self.settings, false), line)?;
         self.is_warned = still_warned(self.is_warned, line);
         self.is_scripted = false;
         self.source.leave_line();
@@ -870,7 +872,7 @@ impl<A: Allocator + Copy> Console<A> {
         match lines {
             None => {
                 let line = self.typist.editor.text();
-                let way = do_line(alloc, &mut self.panel, trying(self.settings, false), line)?;
+                let way = do_line(alloc, &mut self.panel, tried_by(self.settings, false), line)?;
                 self.is_warned = still_warned(self.is_warned, line);
                 self.place = place;
                 self.is_scripted = false;

@@ -1,6 +1,6 @@
 // How a dialogue is held.
 ghost use Rattle.std.specs.Prelude.{◌≡◌};
-ghost use Rattle.p11_console.specs.Manner.{is_person, is_batch, trying};
+ghost use Rattle.p11_console.specs.Manner.{is_person, is_batch, tried_by};
 
 /// Where lines come from.
 #[derive(Clone, Copy, PartialEq, Eq)]
@@ -55,9 +55,9 @@ pub(crate) fn is_batch(manner: Manner) -> bool
 }
 
 /// How a line is tried, of a script or another.
-#[tactic(auto, unfolding(crate::specs::Manner::trying))]
-pub(crate) fn trying(settings: Settings, is_scripted: bool) -> Trying
-    ensures { result ≡ trying settings is_scripted }
+#[tactic(auto, unfolding(crate::specs::Manner::tried_by))]
+pub(crate) fn tried_by(settings: Settings, is_scripted: bool) -> Trying
+    ensures { result ≡ tried_by settings is_scripted }
 {
     Trying {
         is_whole: is_batch(settings.manner),
