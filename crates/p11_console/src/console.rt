@@ -8,7 +8,7 @@ ghost use Rattle.p11_console.specs.Manner.{is_person, is_batch};
 ghost use Rattle.p11_console.specs.Runs.{talk_of};
 ghost use Rattle.p11_console.specs.Said.{Says, SaysBefore};
 ghost use Rattle.p11_console.specs.State.{opened};
-ghost use Rattle.p11_console.specs.Steps.{Steps, Moves, Rests, FindsLine, DoesMeant, DoesScripted, Begins, Types, TakesKey, TakesLine, has_given, Completes, Reads, DoesPhrase, Runs, RunRests, TypingRests, RestsForKeys, TicksIn, RunsBy, Answers, IsAsking, DoesGiven, agrees, Leaves, still_warned, is_quit, is_refusal, goes_behind, status_of, way_ended, stopped_by};
+ghost use Rattle.p11_console.specs.Steps.{Steps, Moves, Rests, FindsLine, DoesMeant, DoesScripted, Begins, Types, TakesKey, TakesLine, has_given, Completes, Reads, DoesPhrase, Runs, RunRests, TypingRests, RestsForKeys, TicksIn, RunsBy, Answers, IsAsking, DoesGiven, agrees, Leaves, still_warned, is_quit, is_once, StepsAgain, is_refusal, goes_behind, status_of, way_ended, stopped_by};
 ghost use Rattle.p11_console.specs.Stops.{stop_text};
 ghost use Rattle.p11_console.specs.Typing.{rested, kept_line, past_of};
 ghost use Rattle.p11_line_editor.specs.History.{remembered};
@@ -20,7 +20,7 @@ use crate::help::help_on;
 use crate::lines::{drop_line, first_line, line_end};
 use crate::misfit::add_meanings;
 use crate::note::Note;
-use crate::own::{Own, own_of};
+use crate::own::{Own, own_of, verb_and_rest};
 use crate::packs::{Packs, any_unsaved};
 use crate::reasons::note_of_file;
 use crate::record::{record_keys, record_run, record_tick};
@@ -30,7 +30,7 @@ use crate::settings::{Settings, is_batch, is_person, tried_by};
 use crate::slices::{at_slice, given_keys, show_slice, slice, take_escape, take_interrupt};
 use crate::stop::{Cause, Stop, put_stop, stop_of};
 use crate::text::Text;
-use crate::tries::{do_line, refused, try_text};
+use crate::tries::{begin_run, do_line, refused, try_text};
 use crate::trouble::{PutFault, Trouble};
 use crate::typist::{Typist, outcome_way};
 use crate::want::Want;
@@ -55,6 +55,7 @@ pub struct Console<A: Allocator = Global> {
     ticks: u32,
     typist: Typist<A>,
     place: Place,
+    is_stepping: bool,
     lines: Buffer<A>,
     script: Buffer<A>,
     is_scripted: bool,
@@ -89,6 +90,7 @@ impl<A: Allocator> Drop for Console<A> {
             ticks: _,
             typist: _,
             place: _,
+            is_stepping: _,
             lines: _,
             script: _,
             is_scripted: _,
@@ -123,6 +125,7 @@ impl<A: Allocator> Model for Console<A> {
       ticks = c.ticks;
       typist = c.typist;
       place = c.place;
+      is_stepping = c.is_stepping;
       lines = c.lines;
       script = c.script;
       is_scripted = c.is_scripted;
@@ -152,6 +155,7 @@ impl<A: Allocator + Copy> Console<A> {
             ticks: 0,
             typist: Typist::new(alloc),
             place: Place::Nowhere,
+            is_stepping: false,
             lines: Buffer::new(alloc),
             script: Buffer::new(alloc),
             is_scripted: false,
@@ -691,6 +695,7 @@ impl<A: Allocator + Copy> Console<A> {
         let line = first_line(self.lines.as_slice());
         let way = do_line(alloc, &mut self.panel, tried_by(self.settings, false), line)?;
         self.is_warned = still_warned(self.is_warned, line);
+        self.is_stepping = is_once(own_of(line));
         self.is_scripted = false;
         self.source.leave_line();
         let mut said = meant_text(alloc, line);
@@ -851,16 +856,31 @@ impl<A: Allocator + Copy> Console<A> {
         ensures err { IfErr result (λ want. want ≡ Want.Memory) }
         ensures same { OnErr result (self.new ≡ self.old) }
     {
+        if self.is_stepping && verb_and_rest(self.typist.editor.text()).0.is_empty() {
+            return Ok(self.step_again(alloc));
+        }
         match read_phrase(alloc, self.place, self.typist.editor.text()) {
             Err(Refusal::NoMemory) => Err(Want::Memory),
             Err(refusal) => {
                 let note = why_no_phrase(alloc, refusal, self.typist.editor.text());
+                self.is_stepping = false;
                 self.is_scripted = false;
                 self.source.leave_line();
                 Ok(refused(alloc, Fault::BadLine, note))
             }
             Ok(phrase) => self.do_phrase(alloc, phrase),
         }
+    }
+
+    /// Does `step` once more.
+    fn step_again(&mut self, alloc: A) -> Way<A>
+        ensures { StepsAgain self.old (record self.new { way = result }) }
+    {
+        self.is_scripted = false;
+        self.is_warned = false;
+        self.source.leave_line();
+        self.screen.say(b"= step\n");
+        begin_run(alloc, 1, false)
     }
 
     fn do_phrase(&mut self, alloc: A, phrase: Phrase<A>) -> Result<Way<A>, Want>
@@ -875,6 +895,7 @@ impl<A: Allocator + Copy> Console<A> {
                 let way = do_line(alloc, &mut self.panel, tried_by(self.settings, false), line)?;
                 self.is_warned = still_warned(self.is_warned, line);
                 self.place = place;
+                self.is_stepping = is_once(own_of(line));
                 self.is_scripted = false;
                 self.source.leave_line();
                 let said = self.way_text(&way);
@@ -1107,6 +1128,15 @@ fn still_warned(is_warned: bool, line: &[u8]) -> bool
     ensures { result ≡ still_warned is_warned line.now }
 {
     is_warned && is_quit(own_of(line))
+}
+
+fn is_once(own: Own) -> bool
+    ensures { result ≡ is_once own }
+{
+    match own {
+        Own::Once => true,
+        _ => false,
+    }
 }
 
 fn is_quit(own: Own) -> bool
