@@ -66,7 +66,7 @@ still_warned is_warned line = is_warned && is_quit (own_of line)
 -- the first of the lines that the typed one means is said and done, and is gone
 abbrev pub DoesMeant : {A : Type 0} → ConsoleState A → ConsoleState A → Type 0
 DoesMeant c c' =
-    DoesLine (tried_by c.settings false) (first_line c.lines) c.machine c'.way c'.machine × Says c.screen c'.screen
+    DoesLine (tried_by c.settings) (first_line c.lines) c.machine c'.way c'.machine × Says c.screen c'.screen
     × (c' ≡ record c {
       machine = c'.machine;
       lines = behind_line c.lines;
@@ -80,7 +80,7 @@ DoesMeant c c' =
 -- the first line of the script is done, and is gone
 abbrev pub DoesScripted : {A : Type 0} → ConsoleState A → ConsoleState A → Type 0
 DoesScripted c c' =
-    Tries (tried_by c.settings true) (first_line c.script) c.machine c'.way c'.machine
+    Tries (tried_by c.settings) (first_line c.script) c.machine c'.way c'.machine
     × (c' ≡ record c {
       machine = c'.machine;
       script = behind_line c.script;
@@ -133,7 +133,7 @@ has_given is_over waiting = is_some (position is_line_feed waiting) || (is_over 
 -- the first line that a program has given is done
 abbrev pub DoesGiven : {A : Type 0} → ConsoleState A → ConsoleState A → Type 0
 DoesGiven c c' =
-    DoesLine (tried_by c.settings false) (first_line c.waiting) c.machine c'.way c'.machine × Says c.screen c'.screen
+    DoesLine (tried_by c.settings) (first_line c.waiting) c.machine c'.way c'.machine × Says c.screen c'.screen
     × (c' ≡ record c {
       machine = c'.machine;
       waiting = behind_line c.waiting;
@@ -162,7 +162,7 @@ Completes c c' =
 -- a line is done as it stands, or the lines in its place are done next
 abbrev pub DoesPhrase : {A : Type 0} → Option (List ℕ) → Place → List ℕ → ConsoleState A → ConsoleState A → Type 0
 DoesPhrase None place line c c' =
-    DoesLine (tried_by c.settings false) line c.machine c'.way c'.machine × Says c.screen c'.screen
+    DoesLine (tried_by c.settings) line c.machine c'.way c'.machine × Says c.screen c'.screen
     × (c' ≡ record c {
       machine = c'.machine;
       place = place;

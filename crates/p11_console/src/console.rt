@@ -75,8 +75,8 @@ pub struct Console<A: Allocator = Global> {
     columns: usize,
     /// Where the script's lines stand.
     source: Script<A>,
-    /// The names of the files that weren't written, each with a space before it.
-    unwritten: Vec<u8, A>,
+    /// The names of the files that weren't written.
+    unwritten: Vec<Bytes<A>, A>,
 }
 
 impl<A: Allocator> Drop for Console<A> {
@@ -233,6 +233,13 @@ impl<A: Allocator + Copy> Console<A> {
         ensures { self.new ≡ self.old }
     {
         self.columns = columns;
+    }
+
+    /// The machine.
+    pub fn panel(&self) -> &Panel<A>
+        ensures { result.now ≡ self.now.machine }
+    {
+        &self.panel
     }
 
     /// The bytes for the screen that the host hasn't taken.
@@ -693,7 +700,7 @@ impl<A: Allocator + Copy> Console<A> {
         ensures same { OnErr result (self.new ≡ self.old) }
     {
         let line = first_line(self.lines.as_slice());
-        let way = do_line(alloc, &mut self.panel, tried_by(self.settings, false), line)?;
+        let way = do_line(alloc, &mut self.panel, tried_by(self.settings), line)?;
         self.is_warned = still_warned(self.is_warned, line);
         self.is_stepping = is_once(own_of(line));
         self.is_scripted = false;
@@ -711,7 +718,7 @@ impl<A: Allocator + Copy> Console<A> {
         ensures err { IfErr result (λ want. want ≡ Want.Memory) }
         ensures same { OnErr result (self.new ≡ self.old) }
     {
-        let how = tried_by(self.settings, true);
+        let how = tried_by(self.settings);
         let way = try_text(
             alloc,
             &mut self.panel,
@@ -785,7 +792,7 @@ impl<A: Allocator + Copy> Console<A> {
         ensures same { OnErr result (self.new ≡ self.old) }
     {
         let line = first_line(self.waiting.as_slice());
-        let way = do_line(alloc, &mut self.panel, tried_by(self.settings, false), line)?;
+        let way = do_line(alloc, &mut self.panel, tried_by(self.settings), line)?;
         self.is_warned = still_warned(self.is_warned, line);
         self.is_scripted = false;
         self.source.leave_line();
@@ -892,7 +899,7 @@ impl<A: Allocator + Copy> Console<A> {
         match lines {
             None => {
                 let line = self.typist.editor.text();
-                let way = do_line(alloc, &mut self.panel, tried_by(self.settings, false), line)?;
+                let way = do_line(alloc, &mut self.panel, tried_by(self.settings), line)?;
                 self.is_warned = still_warned(self.is_warned, line);
                 self.place = place;
                 self.is_stepping = is_once(own_of(line));
@@ -1057,23 +1064,28 @@ fn why_no_phrase<A: Allocator>(alloc: A, refusal: Refusal, typed: &[u8]) -> Note
 }
 
 /// Keeps the name of the file that a line would have written, if it is a new one.
-fn note_unwritten<A: Allocator + Copy>(alloc: A, names: &mut Vec<u8, A>, note: &Note<A>) {
+fn note_unwritten<A: Allocator + Copy>(alloc: A, names: &mut Vec<Bytes<A>, A>, note: &Note<A>) {
     let Some(name) = note.unwritten_name() else {
         return;
     };
-    let mut entry = Text::new(alloc);
-    entry.add(b" ");
-    entry.add(name);
-    let _ = names.extend_from_slice(entry.as_slice());
+    if names.as_slice().iter().any(|other| other.as_slice() == name) {
+        return;
+    }
+    let mut copy = Text::new(alloc);
+    copy.add(name);
+    let _ = names.push(Bytes::from_vec(copy.into_vec()));
 }
 
 /// Adds which files weren't written, since none was to be.
-fn add_unwritten<A: Allocator>(text: &mut Text<A>, names: &[u8]) {
+fn add_unwritten<A: Allocator>(text: &mut Text<A>, names: &[Bytes<A>]) {
     if names.is_empty() {
         return;
     }
     text.add(b"--no-save: not written:");
-    text.add(names);
+    for name in names {
+        text.add(b" ");
+        text.add(name.as_slice());
+    }
     text.add(b"\n");
 }
 

@@ -54,14 +54,14 @@ pub(crate) fn is_batch(manner: Manner) -> bool
     }
 }
 
-/// How a line is tried, of a script or another.
+/// How a line is tried.
 #[tactic(auto, unfolding(crate::specs::Manner::tried_by))]
-pub(crate) fn tried_by(settings: Settings, is_scripted: bool) -> Trying
-    ensures { result ≡ tried_by settings is_scripted }
+pub(crate) fn tried_by(settings: Settings) -> Trying
+    ensures { result ≡ tried_by settings }
 {
     Trying {
         is_whole: is_batch(settings.manner),
         is_saveless: settings.is_saveless,
-        is_asking: is_person(settings.manner) && !is_scripted,
+        is_asking: is_person(settings.manner),
     }
 }
