@@ -1184,11 +1184,7 @@ fn tell_stop<A: Allocator + Copy>(
     let len = screen.len();
     let front: &[u8] = if stop.is_fresh { b"" } else { b"\n" };
     screen.say(front);
-    if put_stop(alloc, screen, stop).is_err() {
-        screen.cut(len);
-        return Err(NoMemory);
-    }
-    if journal.push_all(text).is_err() {
+    if put_stop(alloc, screen, stop).is_err() || journal.push_all(text).is_err() {
         screen.cut(len);
         return Err(NoMemory);
     }
