@@ -544,7 +544,7 @@ impl<A: Allocator + Copy> Console<A> {
     }
 
     /// Does that, but for bringing something else under way.
-    #[tactic(auto, using(crate::proofs::Resting::running_rests, crate::proofs::Resting::typing_rests))]
+    #[tactic(auto, using(crate::proofs::Resting::running_rests, crate::proofs::Resting::typing_rests, crate::proofs::Resting::answer_rests))]
     fn do_next(&mut self, alloc: A, turns: u32) -> Result<Way<A>, Want>
         ensures ok { IfOk result (λ way. Moves turns self.old.way self.old (record self.new { way = way })) }
         ensures err { IfErr result (λ want. Rests want self.old) }
