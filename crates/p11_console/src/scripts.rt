@@ -75,6 +75,8 @@ impl<A: Allocator> Script<A> {
         if self.is_last && is_refused {
             self.add_place(text, self.line);
             text.add(b": ");
+            text.add_clean(self.shown.as_slice());
+            text.add(b": ");
         }
         text.add(note.as_slice());
         text.add(b".\n");
