@@ -122,15 +122,19 @@ typed_once how line s w v s' t' h k m l = does_once (own_of line) how line s w v
 
 -- STATES THAT ARE ONE BUT FOR THE SCREEN
 
+-- a state with this on its screen
+abbrev shown : {A : Type 0} → List ℕ → ConsoleState A → ConsoleState A
+shown screen d = record d { screen = screen }
+
 -- both are one state with these machines, screens and ways
 same : {A : Type 0} (to : State → List ℕ → Way A → ConsoleState A) (c' d' : ConsoleState A) → ((m : State) (x y : List ℕ) (w : Way A) → to m y w ≡ record (to m x w) { screen = y }) → c' ≡ to c'.machine c'.screen c'.way → d' ≡ to d'.machine d'.screen d'.way → c'.machine ≡ d'.machine → c'.way ≡ d'.way → c' ≡ record d' { screen = c'.screen }
 same to c' d' screens h k machine way =
     h ∙ ap (λ m. to m c'.screen c'.way) machine ∙ ap (λ w. to d'.machine c'.screen w) way
-    ∙ screens d'.machine d'.screen c'.screen d'.way ∙ ap (λ d. record d { screen = c'.screen }) (sym k)
+    ∙ screens d'.machine d'.screen c'.screen d'.way ∙ ap (shown c'.screen) (sym k)
 
 -- both are one state with these screens
 said : {A : Type 0} (to : List ℕ → ConsoleState A) (c' d' : ConsoleState A) → ((x y : List ℕ) → to y ≡ record (to x) { screen = y }) → c' ≡ to c'.screen → d' ≡ to d'.screen → c' ≡ record d' { screen = c'.screen }
-said to c' d' screens h k = h ∙ screens d'.screen c'.screen ∙ ap (λ d. record d { screen = c'.screen }) (sym k)
+said to c' d' screens h k = h ∙ screens d'.screen c'.screen ∙ ap (shown c'.screen) (sym k)
 
 -- both are one state
 whole : {A : Type 0} (e c' d' : ConsoleState A) → c' ≡ e → d' ≡ e → c' ≡ record d' { screen = c'.screen }
@@ -141,7 +145,7 @@ whole e c' d' h k = let one = h ∙ sym k in subst (λ x. c' ≡ record d' { scr
 -- a tick never wants memory
 tick_is : {A : Type 0} (s : State) (answer : Answer A) (s' : State) → CommandStep s commands.Tick answer s' → s' ≡ tick_of s
 tick_is s answer s' (inl e) = sym (ap (λ r. r.0) e)
-tick_is s answer s' (inr (inl (takes, refused))) = absurd takes
+tick_is s answer s' (inr (inl (takes, refused))) = cc
 tick_is s answer s' (inr (inr (k, below, needs, stops))) = absurd (omega (arith, below))
 
 ticks_once : {A : Type 0} (made : ℕ) (way : Way A) (c c' d' : ConsoleState A) → TicksIn made way c c' → TicksIn made way c d' → c' ≡ record d' { screen = c'.screen }

@@ -1,5 +1,5 @@
 -- What the host gives and takes.
-use Rattle.std.specs.Prelude.{Vec, ◌≡◌, ℕ, Bool, true, List, Option, Some, None, Result, Ok, Err, if◌then◌else◌}
+use Rattle.std.specs.Prelude.{Vec, ◌≡◌, ℕ, Bool, true, false, List, Option, Some, None, Result, Ok, Err, if◌then◌else◌}
 use Rattle.p11_lines.specs.declared.answer.Answer.TheVariants as answers
 use Rattle.p11_lines.specs.declared.fault.Fault.TheVariants.{StoreFault}
 use Rattle.p11_lines.specs.declared.line.Line.{Line}
@@ -17,7 +17,7 @@ use Rattle.p11_console.specs.Steps.{Completes}
 use Rattle.p11_console.specs.Tries.{Acts, refused}
 use Rattle.p11_console.specs.declared.trouble.Trouble.{Trouble}
 use Rattle.p11_console.specs.declared.trouble.PutFault.{PutFault}
-use Rattle.p11_console.specs.declared.trouble.PutFault.TheVariants.{There, Refused}
+use Rattle.p11_console.specs.declared.trouble.PutFault.TheVariants as puts
 use Rattle.p11_console.specs.declared.way.Way.{Way}
 use Rattle.p11_console.specs.declared.way.Way.TheVariants.{Free, Naming, Telling, Fetching, Putting, Asking, Opening}
 
@@ -45,6 +45,15 @@ unfoldable pub file_command : {A : Type 0} → Line A → List ℕ → Option (C
 file_command (lines.Mount drive name protect) bytes = Some (commands.Mount drive bytes protect)
 file_command (lines.Load name) bytes = Some (commands.Load bytes)
 file_command _ bytes = None
+
+-- the file that is wanted is a pack's
+abbrev pub is_mount : {A : Type 0} → Line A → Bool
+is_mount (lines.Mount drive name protect) = true
+is_mount _ = false
+
+abbrev pub is_pack : {A : Type 0} → Way A → Bool
+is_pack (Fetching line text) = is_mount line
+is_pack _ = false
 
 -- the lines of a file come next, where nothing is under way
 abbrev pub opening : {A : Type 0} → List ℕ → Way A → Way A
@@ -89,9 +98,9 @@ Gives file way c c' = c' ≡ c
 abbrev pub TakesPut : {A : Type 0} → Result (Unit {0}) PutFault → Line A → List ℕ → List ℕ → ConsoleState A → ConsoleState A → Type 0
 TakesPut (Ok done) line image text c c' =
     c' ≡ record c { saved = saved_by line image c.saved; way = Telling answers.Done text tt }
-TakesPut (Err There) line image text c c' =
+TakesPut (Err puts.There) line image text c c' =
     Says c.screen c'.screen × (c' ≡ record c { screen = c'.screen; way = Asking line image text })
-TakesPut (Err Refused) line image text c c' = c' ≡ record c { way = refused (answers.Refused StoreFault) }
+TakesPut (Err (puts.Refused reason)) line image text c c' = c' ≡ record c { way = refused (answers.Refused StoreFault) }
 
 abbrev pub Takes : {A : Type 0} → Result (Unit {0}) PutFault → Way A → ConsoleState A → ConsoleState A → Type 0
 Takes done (Putting line image text is_agreed) c c' = TakesPut done line image text c c'

@@ -5,6 +5,7 @@ use Rattle.p11_lines.specs.declared.answer.Answer.{Answer}
 use Rattle.p11_lines.specs.declared.answer.Answer.TheVariants as answers
 use Rattle.p11_lines.specs.declared.answer.StopReason.{StopReason}
 use Rattle.p11_lines.specs.declared.fault.Fault.TheVariants.{BadLine}
+use Rattle.p11_lines.specs.declared.line.Line.{Line}
 use Rattle.p11_lines.specs.AnswerText.{text_of}
 use Rattle.p11_cpu.specs.State.{State}
 use Rattle.p11_cpu.specs.OperatorDevices.{room_of}

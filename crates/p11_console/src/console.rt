@@ -1,9 +1,9 @@
 // The console: events in, bytes and requests out.
-ghost use Rattle.std.specs.Prelude.{◌≡◌, ◌++◌, ◌≤◌, ◌+◌, ◌∷◌, [], min, true, false, None, slice_get, length, drop, OnOk, OnErr, IfOk, IfErr, option_copied};
+ghost use Rattle.std.specs.Prelude.{◌≡◌, ◌++◌, ◌≤◌, ◌+◌, min, if◌then◌else◌, true, false, None, slice_get, length, drop, OnOk, OnErr, IfOk, IfErr, option_copied};
 ghost use Rattle.p11_line_editor.specs.Completion.{word_of};
 ghost use Rattle.p11_lines.specs.AnswerText.{text_of};
 ghost use Rattle.p11_cpu.specs.OperatorDevices.{room_of};
-ghost use Rattle.p11_console.specs.Files.{Gives, Takes, TakesPut, Names, file_of, wanted, image_in, may_replace, opening, way_missing};
+ghost use Rattle.p11_console.specs.Files.{Gives, Takes, TakesPut, Names, file_of, wanted, image_in, may_replace, is_pack, opening, way_missing};
 ghost use Rattle.p11_console.specs.Manner.{is_person, is_batch};
 ghost use Rattle.p11_console.specs.Runs.{talk_of};
 ghost use Rattle.p11_console.specs.Said.{Says, SaysBefore};
@@ -15,7 +15,7 @@ ghost use Rattle.p11_line_editor.specs.History.{remembered};
 
 use crate::buffer::Buffer;
 use crate::completing::{Kind, candidates, kind_at, list};
-use crate::files::{give_line, name_of, way_missing};
+use crate::files::{file_in, give_line, is_mount, name_of, way_missing};
 use crate::help::help_on;
 use crate::lines::{drop_line, first_line, line_end};
 use crate::misfit::add_meanings;
@@ -255,7 +255,6 @@ impl<A: Allocator + Copy> Console<A> {
     {
         if let Way::Typing = self.way.get() {
             if is_person(self.settings.manner) {
-                self.screen.say(b"\r");
                 self.show(Outcome::Changed);
             }
         }
@@ -357,6 +356,16 @@ impl<A: Allocator + Copy> Console<A> {
         }
     }
 
+    /// Whether the file that is wanted is a pack's, which a `save` may write over unasked.
+    pub fn is_pack(&self) -> bool
+        ensures { result ≡ is_pack self.now.way }
+    {
+        match self.way.get() {
+            Way::Fetching { line, .. } => is_mount(line),
+            _ => false,
+        }
+    }
+
     /// The host gives the bytes of the file that is wanted, or says why not. Where none is wanted nothing is done.
     pub fn fetched(&mut self, alloc: A, file: Result<Vec<u8, A>, Trouble>)
         ensures { Gives (file_of file) self.old.way self.old self.new }
@@ -447,11 +456,8 @@ impl<A: Allocator + Copy> Console<A> {
                 Way::Asking { line, image, text }
             }
             Err(PutFault::Refused { reason }) => {
-                let name = match name_of(&line) {
-                    Some(name) => name,
-                    None => b"",
-                };
-                refused(alloc, Fault::StoreFault, note_of_file(alloc, name, reason))
+                let note = note_of_file(alloc, file_in(&line), reason);
+                refused(alloc, Fault::StoreFault, note)
             }
         }
     }
@@ -461,9 +467,7 @@ impl<A: Allocator + Copy> Console<A> {
         ensures { Says self.old.screen self.new.screen × (self.new ≡ record self.old { screen = self.new.screen }) }
     {
         let mut said = Text::new(alloc);
-        if let Some(name) = name_of(line) {
-            said.add(name);
-        }
+        said.add(file_in(line));
         said.add(b" is there: write over it (y, or another key)? ");
         self.screen.say(said.as_slice());
     }
@@ -591,14 +595,11 @@ impl<A: Allocator + Copy> Console<A> {
             Way::Telling { answer, text, note } => {
                 tell(&mut self.screen, &mut self.journal, answer, text.as_slice())?;
                 self.has_refused = self.has_refused || self.is_scripted && is_refusal(answer);
-                let mut said = Text::new(alloc);
                 if is_batch(self.settings.manner) {
-                    self.source.add_remark(&mut said, answer, note);
-                    self.errors.say(said.as_slice());
-                } else {
-                    self.source.add_note(&mut said, answer, note);
-                    self.screen.say(said.as_slice());
+                    add_remark(alloc, &mut self.source, &mut self.errors, answer, note);
                 }
+                let said = note_text(alloc, &mut self.source, self.settings, answer, note);
+                self.screen.say(said.as_slice());
                 note_unwritten(alloc, &mut self.unwritten, note);
                 Ok(Way::Free)
             }
@@ -650,23 +651,30 @@ impl<A: Allocator + Copy> Console<A> {
     {
         let is_all = is_batch(self.settings.manner);
         let is_to_talk = self.is_to_talk;
+        let said = self.behind_text(alloc, is_all, is_to_talk);
+        self.screen.say(said.as_slice());
+        self.is_to_talk = false;
+        self.typist.begin();
+        goes_behind(is_all, is_to_talk)
+    }
+
+    /// What is said on the screen behind a script. Of a script that is all it is said apart.
+    fn behind_text(&mut self, alloc: A, is_all: bool, is_to_talk: bool) -> Text<A>
+        ensures { self.new ≡ self.old }
+    {
         let mut said = Text::new(alloc);
         self.source.end(&mut said);
         if is_all {
             add_unwritten(&mut said, self.unwritten.as_slice());
             self.errors.say(said.as_slice());
-            self.screen.say(b"");
-        } else {
-            if is_to_talk {
-                said.add(self.talk_text());
-            } else if is_person(self.settings.manner) {
-                said.add(PROMPT);
-            }
-            self.screen.say(said.as_slice());
+            return Text::new(alloc);
         }
-        self.is_to_talk = false;
-        self.typist.begin();
-        goes_behind(is_all, is_to_talk)
+        if is_to_talk {
+            said.add(self.talk_text());
+        } else if is_person(self.settings.manner) {
+            said.add(PROMPT);
+        }
+        said
     }
 
     /// How one comes back from a talk, once, where a person types.
@@ -1025,15 +1033,18 @@ impl<A: Allocator + Copy> Console<A> {
         ensures err { IfErr result (λ want. want ≡ Want.Memory) }
         ensures same { OnErr result (self.new ≡ self.old) }
     {
-        let at_once = self.is_warned || (self.is_over || self.settings.is_saveless);
+        if self.is_warned {
+            self.screen.say(b"");
+            return Ok(Way::Over);
+        }
+        let at_once = self.is_over || self.settings.is_saveless;
         let mut said = Text::new(alloc);
         let found = any_unsaved(alloc, &mut self.panel, &self.saved, &mut said);
         let is_over = at_once || !found?;
-        if !is_over {
-            said.add(b"A second quit leaves, and what no file has is lost.\n");
-        }
         if is_over {
             add_unwritten(&mut said, self.unwritten.as_slice());
+        } else {
+            said.add(b"A second quit leaves, and what no file has is lost.\n");
         }
         self.screen.say(said.as_slice());
         if is_over {
@@ -1061,6 +1072,34 @@ fn why_no_phrase<A: Allocator>(alloc: A, refusal: Refusal, typed: &[u8]) -> Note
         add_meanings(&mut text, typed);
     }
     Note::of(text.into_vec())
+}
+
+/// What is said behind an answer on the screen; of a script that is all nothing.
+fn note_text<A: Allocator>(
+    alloc: A,
+    source: &mut Script<A>,
+    settings: Settings,
+    answer: &Answer<A>,
+    note: &Note<A>,
+) -> Text<A> {
+    let mut text = Text::new(alloc);
+    if !is_batch(settings.manner) {
+        source.add_note(&mut text, answer, note);
+    }
+    text
+}
+
+/// Says apart what there is to say of a line of a script that is all.
+fn add_remark<A: Allocator>(
+    alloc: A,
+    source: &mut Script<A>,
+    errors: &mut Buffer<A>,
+    answer: &Answer<A>,
+    note: &Note<A>,
+) {
+    let mut text = Text::new(alloc);
+    source.add_remark(&mut text, answer, note);
+    errors.say(text.as_slice());
 }
 
 /// Keeps the name of the file that a line would have written, if it is a new one.

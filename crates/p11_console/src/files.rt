@@ -1,7 +1,8 @@
 // The files that lines wait for.
 ghost use Rattle.std.specs.Prelude.{◌≡◌, option_copied};
-ghost use Rattle.p11_console.specs.Files.{GivesLine, file_command, file_of, file_name, way_missing};
+ghost use Rattle.p11_console.specs.Files.{GivesLine, file_command, file_of, file_name, is_mount, way_missing};
 ghost use Rattle.p11_console.specs.Tries.{refused};
+ghost use Rattle.p11_lines.specs.declared.answer.Answer.TheVariants as answers;
 ghost use Rattle.p11_panel.specs.Session.{fault_of};
 
 use crate::reasons::{note_of, note_of_file};
@@ -25,6 +26,16 @@ pub(crate) fn name_of<A: Allocator>(line: &Line<A>) -> Option<&[u8]>
     }
 }
 
+/// Whether a line mounts a pack.
+pub(crate) fn is_mount<A: Allocator>(line: &Line<A>) -> bool
+    ensures { result ≡ is_mount line.now }
+{
+    match line {
+        Line::Mount { .. } => true,
+        _ => false,
+    }
+}
+
 /// The command of a line on the bytes of its file.
 #[tactic(auto, unfolding(crate::specs::Files::file_command))]
 fn command_on<A: Allocator>(line: &Line<A>, bytes: Bytes<A>) -> Option<Command<A>>
@@ -43,7 +54,7 @@ fn command_on<A: Allocator>(line: &Line<A>, bytes: Bytes<A>) -> Option<Command<A
 
 /// The refusal of a line whose file can't be had.
 fn refuse<A: Allocator + Copy>(alloc: A, name: &[u8], trouble: Trouble) -> Way<A>
-    ensures { result ≡ refused (Answer.Refused (fault_of trouble.error)) }
+    ensures { result ≡ refused (answers.Refused (fault_of trouble.error)) }
 {
     match trouble.error {
         StoreError::Refused => refused(
@@ -51,7 +62,11 @@ fn refuse<A: Allocator + Copy>(alloc: A, name: &[u8], trouble: Trouble) -> Way<A
             Fault::StoreFault,
             note_of_file(alloc, name, trouble.reason),
         ),
-        StoreError::NoMemory => refused(alloc, Fault::NoMemory, note_of(alloc, Fault::NoMemory)),
+        StoreError::NoMemory => refused(
+            alloc,
+            Fault::NoMemory,
+            note_of_file(alloc, name, "there is no memory left for it"),
+        ),
     }
 }
 
@@ -91,7 +106,7 @@ pub(crate) fn give_line<A: Allocator + Copy>(
 }
 
 /// The name of the file of a line, or none.
-fn file_in<A: Allocator>(line: &Line<A>) -> &[u8] {
+pub(crate) fn file_in<A: Allocator>(line: &Line<A>) -> &[u8] {
     match name_of(line) {
         Some(name) => name,
         None => b"",

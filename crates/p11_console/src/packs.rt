@@ -156,7 +156,7 @@ fn is_unsaved<A: Allocator + Copy>(
 }
 
 /// Whether a drive of these has sectors that no file has; each that has is told. Nothing changes.
-#[tactic(auto, unfolding(crate::specs::Saved::any_unsaved))]
+#[tactic(auto, unfolding(crate::specs::Saved::any_unsaved, crate::specs::Saved::is_unsaved, p11_rk11::specs::State::drive_of))]
 fn any_unsaved_of<A: Allocator + Copy>(
     alloc: A,
     panel: &mut Panel<A>,

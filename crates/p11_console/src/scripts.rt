@@ -67,12 +67,12 @@ impl<A: Allocator> Script<A> {
 
     /// Adds what is said behind an answer at the console: of a script's line also where it stands.
     pub(crate) fn add_note(&mut self, text: &mut Text<A>, answer: &Answer<A>, note: &Note<A>) {
-        let is_refused = self.count(answer);
+        self.count(answer);
         if self.is_unsaid(note) {
             return;
         }
         text.add(b"  ");
-        if self.is_last && is_refused {
+        if self.is_last {
             self.add_place(text, self.line);
             text.add(b": ");
             text.add_clean(self.shown.as_slice());
@@ -84,7 +84,7 @@ impl<A: Allocator> Script<A> {
 
     /// Adds what is said of a line of a script that is all, apart from the answers.
     pub(crate) fn add_remark(&mut self, text: &mut Text<A>, answer: &Answer<A>, note: &Note<A>) {
-        let _ = self.count(answer);
+        self.count(answer);
         if self.is_unsaid(note) {
             return;
         }
@@ -104,19 +104,15 @@ impl<A: Allocator> Script<A> {
         note.as_slice().is_empty() || self.is_last && note.unwritten_name().is_some()
     }
 
-    /// Counts an answer to one of its lines; whether it is a refusal.
-    fn count(&mut self, answer: &Answer<A>) -> bool {
-        match answer {
-            Answer::Refused(_) => {
-                if self.is_last {
-                    if self.refused == 0 {
-                        self.first = self.line;
-                    }
-                    self.refused = self.refused.saturating_add(1);
+    /// Counts an answer, if it refuses one of its lines.
+    fn count(&mut self, answer: &Answer<A>) {
+        if let Answer::Refused(_) = answer {
+            if self.is_last {
+                if self.refused == 0 {
+                    self.first = self.line;
                 }
-                true
+                self.refused = self.refused.saturating_add(1);
             }
-            _ => false,
         }
     }
 

@@ -8,7 +8,7 @@ ghost use Rattle.p11_console.specs.Record.{ended};
 
 use crate::note::{Note, Subject, Topic};
 use crate::own::{Own, name_of, own_of, verb_and_rest};
-use crate::files::name_of as file_name;
+use crate::files::file_in;
 use crate::misfit::why_no_line;
 use crate::reasons::{note_for, note_of};
 use crate::record::{record_line, recorded};
@@ -124,9 +124,7 @@ pub(crate) fn act<A: Allocator + Copy>(
 /// That a line writes no file.
 fn unwritten<A: Allocator + Copy>(alloc: A, line: &Line<A>) -> Note<A> {
     let mut name = Text::new(alloc);
-    if let Some(bytes) = file_name(line) {
-        name.add(bytes);
-    }
+    name.add(file_in(line));
     let mut text = Text::new(alloc);
     text.add(b"nothing is written: --no-save");
     Note::unwritten(text.into_vec(), Bytes::from_vec(name.into_vec()))
