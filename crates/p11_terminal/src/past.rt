@@ -1,9 +1,12 @@
 // Lines of earlier dialogues, in a file of the owner's.
 use crate::ending::Cause;
-use std::alloc::Global;
+use p11_console::Console;
 use std::fs;
 use std::fs::{File, OpenOptions};
 use std::io::{ErrorKind, Write};
+
+/// The most bytes of a line that is typed.
+const MOST_BYTES: usize = 4096;
 
 /// The lines of earlier dialogues, and the file to which further ones go, where the owner names one.
 #[derive(Drop)]
@@ -35,21 +38,26 @@ impl Past {
         }
     }
 
-    /// The lines, each with LF, the oldest first.
-    pub(crate) fn lines(&self) -> &[u8] {
-        self.lines.as_slice()
-    }
-
-    /// Writes a line to the file. Where that fails the line is kept for this dialogue alone.
-    pub(crate) fn keep(&mut self, alloc: Global, line: &[u8]) {
-        let Some(file) = &mut self.file else {
-            return;
-        };
-        let Ok(mut text) = Vec::from_slice(alloc, line) else {
-            return;
-        };
-        if text.push(b'\n').is_ok() {
-            let _ = file.write_all(text.as_slice());
+    /// Gives a console the lines, the oldest first. One that no keys give is left out.
+    pub(crate) fn give(&self, rt: &HostRuntime, console: &mut Console) {
+        for line in self.lines.as_slice().split(|byte| *byte == b'\n') {
+            if is_typed(line) {
+                let _ = console.remember(rt.alloc(), line);
+            }
         }
     }
+
+    /// Writes lines to the file. Where that fails they are kept for this dialogue alone.
+    pub(crate) fn keep(&mut self, lines: &[u8]) {
+        if let Some(file) = &mut self.file {
+            let _ = file.write_all(lines);
+        }
+    }
+}
+
+/// Whether keys can give a line, and it has any.
+fn is_typed(line: &[u8]) -> bool {
+    !line.is_empty()
+        && line.len() <= MOST_BYTES
+        && line.iter().all(|byte| b' ' <= *byte && *byte <= b'~')
 }
