@@ -1,4 +1,6 @@
 // How the program ends.
+use p11_panel::NoMemory;
+use std::alloc::AllocError;
 
 /// Why the program ends.
 #[derive(Drop)]
@@ -25,6 +27,18 @@ pub(crate) enum Cause {
     Writing,
     /// The input can't be read.
     Reading,
+}
+
+impl From<AllocError> for Cause {
+    fn from(_: AllocError) -> Self {
+        Cause::NoMemory
+    }
+}
+
+impl From<NoMemory> for Cause {
+    fn from(_: NoMemory) -> Self {
+        Cause::NoMemory
+    }
 }
 
 /// The exit status, and what is said: of help on standard output, and else on standard error.

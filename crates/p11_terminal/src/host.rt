@@ -3,21 +3,22 @@ use crate::ending::Cause;
 use crate::files::Files;
 use crate::folder::names_of;
 use crate::journal::Journal;
-use crate::keyboard::{Keyboard, Press};
-use crate::past::Past;
-use crate::window::Window;
+use crate::window::window_in;
 use p11_console::{Console, Want};
-use std::alloc::AllocError;
-use std::io::{Stderr, Stdout, Write};
+use std::fs::File;
+use std::io::{Read, Stderr, Stdin, Stdout, Write};
 use std::sync::ledger::Ledger;
 use std::thread;
-use std::time::{Duration, Instant};
+use std::time::{Clock, Duration};
 
 /// How many milliseconds it waits where nothing is pressed.
 const PAUSE_MS: u64 = 20;
 
-/// How many milliseconds pass at least, while there is something to do, between two looks at the keyboard.
+/// How many milliseconds pass at least between two looks at the keyboard while the console is at work.
 const LOOK_MS: u64 = 5;
+
+/// Bytes of one read at most.
+const READ_BYTES: usize = 4096;
 
 /// A console, and what is around it.
 #[derive(Drop)]
@@ -26,20 +27,22 @@ pub(crate) struct Host<'a, L: Ledger> {
     pub(crate) console: Console,
     /// Turns of a slice.
     pub(crate) slice: u32,
-    pub(crate) keyboard: Keyboard,
-    /// Whether a person types.
+    pub(crate) input: Stdin,
+    /// Whether a person types: then a read doesn't wait, and gives nothing where nothing is pressed.
     pub(crate) is_typed: bool,
-    pub(crate) window: Window,
-    /// How often the program had been stopped when the line was shown last.
-    pub(crate) returns: u32,
-    pub(crate) files: Files<'a, L>,
+    pub(crate) has_read_fault: bool,
     pub(crate) screen: Stdout,
     pub(crate) errors: Stderr,
+    pub(crate) files: Files<'a, L>,
     pub(crate) journal: Journal,
-    pub(crate) past: Past,
-    /// When the keyboard was looked at.
-    pub(crate) looked: Option<Instant>,
-    pub(crate) has_read_fault: bool,
+    /// The history's file.
+    pub(crate) past: Option<File>,
+    /// The file in which the launcher tells the terminal's size.
+    pub(crate) size: Option<String>,
+    /// How often the terminal had been another program's when the line was shown last.
+    pub(crate) returns: u32,
+    /// When the keyboard was looked at, by the system's clock.
+    pub(crate) looked: Duration,
 }
 
 impl<L: Ledger> Host<'_, L> {
@@ -51,50 +54,64 @@ impl<L: Ledger> Host<'_, L> {
                 continue;
             }
             self.write()?;
-            if !self.serve(want)? {
-                break;
+            match want {
+                Want::Step if self.is_typed => {
+                    self.read()?;
+                }
+                Want::Step => {}
+                Want::Keys | Want::Idle => self.wait()?,
+                Want::Fetch => self.fetch(),
+                Want::Put => self.put(),
+                Want::Names => self.give_names(),
+                Want::Memory => return Err(Cause::NoMemory),
+                Want::End => break,
             }
         }
-        if self.has_read_fault {
-            return Ok(Cause::Reading);
-        }
-        let status = self.console.status();
-        Ok(Cause::Done(if self.journal.is_torn() { 1 } else { status }))
+        Ok(self.ending())
     }
 
-    /// Whether the keyboard was looked at just before. Else that is noted as done now.
+    /// How the dialogue ended.
+    fn ending(&self) -> Cause {
+        if self.has_read_fault {
+            Cause::Reading
+        } else if self.journal.is_torn() {
+            Cause::Done(1)
+        } else {
+            Cause::Done(self.console.status())
+        }
+    }
+
+    /// Whether the keyboard was looked at just before. Else it is now.
     fn is_early(&mut self) -> bool {
-        let Ok(now) = Instant::now(self.rt) else {
+        let Ok(now) = self.rt.monotonic() else {
             return false;
         };
-        if let Some(looked) = self.looked {
-            if now.saturating_duration_since(looked) < Duration::from_millis(LOOK_MS) {
-                return true;
-            }
+        if now.saturating_sub(self.looked) < Duration::from_millis(LOOK_MS) {
+            return true;
         }
-        self.looked = Some(now);
+        self.looked = now;
         false
     }
 
-    /// Does what the console wants; whether it goes on.
-    fn serve(&mut self, want: Want) -> Result<bool, Cause> {
-        match want {
-            Want::Step => self.look()?,
-            Want::Keys | Want::Idle => self.wait()?,
-            Want::Fetch => self.fetch(),
-            Want::Put => self.put(),
-            Want::Names => self.give_names(),
-            Want::Memory => return Err(Cause::NoMemory),
-            Want::End => return Ok(false),
+    /// Writes what there is, and tells the console that it is written.
+    fn write(&mut self) -> Result<(), Cause> {
+        let count = self.console.record().len();
+        self.journal.write(self.rt, self.console.record());
+        self.console.recorded(count);
+        let count = self.console.past().len();
+        if let Some(file) = &mut self.past {
+            let _ = file.write_all(self.console.past());
         }
-        Ok(true)
-    }
-
-    /// Looks at the keyboard, where that doesn't wait.
-    fn look(&mut self) -> Result<(), Cause> {
-        if self.is_typed {
-            self.read()?;
+        self.console.kept(count);
+        let count = self.console.screen().len();
+        if self.screen.write_all(self.console.screen()).is_err() {
+            return Err(Cause::Writing);
         }
+        self.console.shown(count);
+        if self.errors.write_all(self.console.errors()).is_err() {
+            return Err(Cause::Writing);
+        }
+        self.console.told();
         Ok(())
     }
 
@@ -112,30 +129,28 @@ impl<L: Ledger> Host<'_, L> {
 
     /// Reads once, and gives that to the console; whether something came.
     fn read(&mut self) -> Result<bool, Cause> {
-        match self.keyboard.read() {
-            Press::Keys(keys) => match self.console.keys(keys) {
-                Ok(()) => Ok(true),
-                Err(_) => Err(Cause::NoMemory),
-            },
-            Press::Nothing => Ok(false),
-            Press::End => {
-                self.console.closed();
-                Ok(true)
-            }
-            Press::Fault => {
+        let mut bytes = [0u8; READ_BYTES];
+        match self.input.read(&mut bytes) {
+            Ok(0) if self.is_typed => return Ok(false),
+            Ok(0) => self.console.closed(),
+            Ok(count) => self.console.keys(&bytes[..count])?,
+            Err(_) => {
                 self.has_read_fault = true;
                 self.console.closed();
-                Ok(true)
             }
         }
+        Ok(true)
     }
 
-    /// Tells the console the terminal's size, and that the terminal was another program's.
+    /// Tells the console how wide the terminal is, and that it was another program's.
     fn look_at_window(&mut self) {
-        if let Some(size) = self.window.size(self.rt) {
-            self.console.resized(size.columns);
-            if size.returns != self.returns {
-                self.returns = size.returns;
+        let Some(file) = &self.size else {
+            return;
+        };
+        if let Some(window) = window_in(self.rt, file.as_str()) {
+            self.console.resized(window.columns);
+            if window.returns != self.returns {
+                self.returns = window.returns;
                 self.console.redrawn();
             }
         }
@@ -149,57 +164,21 @@ impl<L: Ledger> Host<'_, L> {
         }
     }
 
-    /// Writes the console's file.
+    /// Writes the file that the console wants written.
     fn put(&mut self) {
         if let (Some(name), Some(image)) = (self.console.name(), self.console.image()) {
-            let may_replace = self.console.may_replace();
-            let done = self.files.put(name, image, may_replace);
+            let done = self.files.put(name, image, self.console.may_replace());
             self.console.put(self.rt.alloc(), done);
         }
     }
 
-    /// Gives the console names of files; none where there is no memory.
+    /// Gives the console names of files.
     fn give_names(&mut self) {
-        if self.try_names().is_err() {
-            self.console.names(self.rt.alloc(), &[]);
-        }
-    }
-
-    fn try_names(&mut self) -> Result<(), AllocError> {
-        let names = names_of(self.rt, self.console.front())?;
+        let names = names_of(self.rt, self.console.front());
         let mut parts = Vec::new(self.rt.alloc());
         for name in &names {
-            parts.push(name.as_slice())?;
+            let _ = parts.push(name.as_slice());
         }
         self.console.names(self.rt.alloc(), parts.as_slice());
-        Ok(())
-    }
-
-    /// Writes what there is, and tells the console that it is written.
-    fn write(&mut self) -> Result<(), Cause> {
-        let recorded = self.console.record().len();
-        if recorded > 0 {
-            self.journal.write(self.rt, self.console.record());
-            self.console.recorded(recorded);
-        }
-        let kept = self.console.past().len();
-        if kept > 0 {
-            self.past.keep(self.console.past());
-            self.console.kept(kept);
-        }
-        let shown = self.console.screen().len();
-        if shown > 0 {
-            if self.screen.write_all(self.console.screen()).is_err() {
-                return Err(Cause::Writing);
-            }
-            self.console.shown(shown);
-        }
-        if !self.console.errors().is_empty() {
-            if self.errors.write_all(self.console.errors()).is_err() {
-                return Err(Cause::Writing);
-            }
-            self.console.told();
-        }
-        Ok(())
     }
 }

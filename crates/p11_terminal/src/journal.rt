@@ -2,14 +2,13 @@
 use crate::ending::Cause;
 use crate::remark::remark;
 use crate::settings::Launch;
-use std::alloc::AllocError;
 use std::fs::{File, OpenOptions};
 use std::io::{ErrorKind, Write};
 
-/// The most numbers that are tried behind a name.
-const MOST_NUMBERS: u32 = 9999;
+/// The most names that are tried.
+const MOST_NAMES: u32 = 10_000;
 
-/// The record's file, where one is written.
+/// The record's file and its name, where one is written.
 #[derive(Drop)]
 pub(crate) struct Journal {
     file: Option<(File, String)>,
@@ -25,10 +24,7 @@ impl Journal {
         };
         if let Some(name) = launch.record {
             journal.file = Some(new_file(rt, name)?);
-            match remark(rt, launch) {
-                Ok(text) => journal.write(rt, text.as_slice()),
-                Err(_) => return Err(Cause::NoMemory),
-            }
+            journal.write(rt, remark(rt, launch)?.as_slice());
         }
         Ok(journal)
     }
@@ -44,9 +40,7 @@ impl Journal {
             return;
         };
         if file.write_all(bytes).is_err() {
-            let _ = rt.eprint("terminal: the record can't be written: ");
-            let _ = rt.eprint(name.as_str());
-            let _ = rt.eprint("\n");
+            let _ = eprintln!(rt; "terminal: the record can't be written: {name}");
             self.file = None;
             self.is_torn = true;
         }
@@ -55,39 +49,24 @@ impl Journal {
 
 /// Makes a file of this name, or of the name with the first number behind it under which none is there, which is said.
 fn new_file(rt: &HostRuntime, name: &str) -> Result<(File, String), Cause> {
-    for number in 0..MOST_NUMBERS {
-        let Ok(path) = numbered(rt, name, number) else {
-            return Err(Cause::NoMemory);
-        };
-        match create_new(rt, path.as_str()) {
+    let mut path = String::from_str(rt.alloc(), name)?;
+    for number in 1..MOST_NAMES {
+        match OpenOptions::new()
+            .write(true)
+            .create_new(true)
+            .open(rt, path.as_str())
+        {
             Ok(file) => {
-                if number > 0 {
+                if number > 1 {
                     let _ = eprintln!(rt; "terminal: {name} is there: the record goes to {path}");
                 }
                 return Ok((file, path));
             }
-            Err(ErrorKind::AlreadyExists) => {}
+            Err(error) if error.kind() == ErrorKind::AlreadyExists => {
+                path = format!(in rt.alloc(); "{name}.{number}")?;
+            }
             Err(_) => return Err(Cause::NoRecord),
         }
     }
     Err(Cause::NoRecord)
-}
-
-/// A name with a number behind it, if that isn't 0.
-fn numbered(rt: &HostRuntime, name: &str, number: u32) -> Result<String, AllocError> {
-    if number == 0 {
-        return String::from_str(rt.alloc(), name);
-    }
-    format!(in rt.alloc(); "{name}.{number}")
-}
-
-fn create_new(rt: &HostRuntime, path: &str) -> Result<File, ErrorKind> {
-    match OpenOptions::new()
-        .write(true)
-        .create_new(true)
-        .open(rt, path)
-    {
-        Ok(file) => Ok(file),
-        Err(error) => Err(error.kind()),
-    }
 }

@@ -12,7 +12,6 @@ mod files;
 mod folder;
 mod host;
 mod journal;
-mod keyboard;
 mod past;
 mod remark;
 mod settings;
@@ -22,16 +21,16 @@ use crate::ending::{Cause, ending};
 use crate::files::Files;
 use crate::host::Host;
 use crate::journal::Journal;
-use crate::keyboard::Keyboard;
-use crate::past::Past;
+use crate::past::open_past;
 use crate::settings::{Launch, settings};
-use crate::window::Window;
 use p11_console::{Console, Manner, Settings};
 use p11_files::FileStore;
 use p11_panel::Panel;
+use std::io::IsTerminal;
 use std::marker::Brand;
 use std::process::ExitCode;
 use std::sync::ledger::{Blank, Ledger};
+use std::time::Duration;
 use std::{env, io};
 
 fn main(rt: HostRuntime) -> ExitCode {
@@ -79,47 +78,45 @@ fn hold<L: Ledger>(rt: &HostRuntime, launch: &Launch<'_>, blank: Blank) -> Resul
     requires parts { blank.parts ≡ L.parts }
     requires some { 0 < blank.parts }
 {
-    let keyboard = Keyboard::new(rt);
-    let manner = manner(launch, &keyboard);
-    let past = Past::open(rt, launch.history)?;
-    let console = console(rt, launch, manner, &past)?;
+    let input = rt.stdin();
+    let manner = manner(launch.is_batch, input.is_terminal());
+    let mut console = console(rt, launch, manner)?;
+    let past = match launch.history {
+        Some(path) => Some(open_past(rt, path, &mut console)?),
+        None => None,
+    };
     let mut host = Host {
         rt,
         console,
         slice: launch.slice,
-        keyboard,
+        input,
         is_typed: manner == Manner::Typed,
-        window: Window::new(rt),
-        returns: 0,
-        files: Files::new(rt, FileStore::<L>::new(rt, blank)),
+        has_read_fault: false,
         screen: rt.stdout(),
         errors: rt.stderr(),
+        files: Files::new(rt, FileStore::<L>::new(rt, blank)),
         journal: Journal::open(rt, launch)?,
         past,
-        looked: None,
-        has_read_fault: false,
+        size: env::var(rt, "P11_SIZE").ok(),
+        returns: 0,
+        looked: Duration::ZERO,
     };
     host.hold()
 }
 
 /// Where lines come from.
-fn manner(launch: &Launch<'_>, keyboard: &Keyboard) -> Manner {
-    if launch.is_batch {
+fn manner(is_batch: bool, is_terminal: bool) -> Manner {
+    if is_batch {
         Manner::Batch
-    } else if keyboard.is_terminal() {
+    } else if is_terminal {
         Manner::Typed
     } else {
         Manner::Given
     }
 }
 
-/// A console over a new machine, which remembers the lines of earlier dialogues and begins with the script.
-fn console(
-    rt: &HostRuntime,
-    launch: &Launch<'_>,
-    manner: Manner,
-    past: &Past,
-) -> Result<Console, Cause> {
+/// A console over a new machine, which begins with the script.
+fn console(rt: &HostRuntime, launch: &Launch<'_>, manner: Manner) -> Result<Console, Cause> {
     let Ok(panel) = Panel::new(rt.alloc(), launch.config) else {
         return Err(Cause::NoMemory);
     };
@@ -130,11 +127,8 @@ fn console(
         is_talk: launch.is_talk,
     };
     let mut console = Console::new(rt.alloc(), panel, settings);
-    past.give(rt, &mut console);
     if let Some(name) = launch.script {
-        if console.open(rt.alloc(), name.as_bytes()).is_err() {
-            return Err(Cause::NoMemory);
-        }
+        console.open(rt.alloc(), name.as_bytes())?;
     }
     Ok(console)
 }
