@@ -1,5 +1,5 @@
 // A dialogue that is held again and again, with something else in its way each time.
-use crate::data::{StoredFile, Wrong, bad_line, same};
+use crate::data::{StoredFile, Wrong, same};
 use crate::talks::came::Came;
 use crate::talks::holding::hold;
 use crate::talks::records::{gives_the_same, new_panel};
@@ -15,10 +15,14 @@ const HEAP: usize = 16_777_216;
 const OTHER_SLICE: u32 = 7;
 
 /// Holds a dialogue, and compares it with what is written down; then with something else in its way each time, and compares
-/// it with that.
-pub(crate) fn hold_all(alloc: Global, talk: &Talk, files: &[StoredFile]) -> Result<(), Wrong> {
+/// it with that: how often memory was wanted.
+pub(crate) fn hold_all(alloc: Global, talk: &Talk, files: &[StoredFile]) -> Result<u32, Wrong> {
     let all = All { alloc, talk, files };
-    let slice = if talk.slice == 0 { CALM.slice } else { talk.slice };
+    let slice = if talk.slice == 0 {
+        CALM.slice
+    } else {
+        talk.slice
+    };
     let calm = Trouble {
         slice,
         call: talk.refused,
@@ -28,12 +32,13 @@ pub(crate) fn hold_all(alloc: Global, talk: &Talk, files: &[StoredFile]) -> Resu
         is_looked: false,
         ..calm
     })?;
-    let written = talk.text(alloc)?;
-    let found = closed.text(alloc, !talk.past.is_empty())?;
+    let has_past = !talk.sight.past.is_empty();
+    let written = talk.sight.text(alloc, has_past)?;
+    let found = closed.sight.text(alloc, has_past)?;
     same(alloc, talk.name.as_str(), written.as_str(), found.as_str())?;
     all.gives_the_same(calm, &closed)?;
-    if talk.heap > 0 {
-        return Ok(());
+    if talk.heap > 0 || talk.is_once {
+        return Ok(0);
     }
     let whole = all.hold(calm)?;
     let (record, record_again) = (closed.record_text(alloc)?, whole.record_text(alloc)?);
@@ -128,8 +133,8 @@ impl All<'_> {
     }
 
     /// Memory is missing at each step. Where a step wants it nothing has changed, and with memory all goes as ever; where it
-    /// does something without, a line may be refused or a text left out, and the record gives the same.
-    fn starve(&self, calm: Trouble, whole: &Came) -> Result<(), Wrong> {
+    /// does something without, a line may be refused or a text left out, and the record gives the same. How often it was wanted.
+    fn starve(&self, calm: Trouble, whole: &Came) -> Result<u32, Wrong> {
         let mut wants = 0u32;
         for step in 1..whole.steps.saturating_add(1) {
             for memory in [Memory::Once(step), Memory::Slowly(step)] {
@@ -139,11 +144,7 @@ impl All<'_> {
         for memory in [Memory::Keys, Memory::Answers, Memory::Always] {
             wants = wants.saturating_add(self.starve_by(calm, whole, memory)?);
         }
-        if wants > 0 {
-            Ok(())
-        } else {
-            Err(bad_line(self.alloc, "no step wanted memory"))
-        }
+        Ok(wants)
     }
 
     /// Memory is missing so: how often it was wanted.

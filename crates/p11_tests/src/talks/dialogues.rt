@@ -13,7 +13,7 @@ use std::mem;
 /// - none, or `#`: nothing.
 /// - `@ NAME TIMES BYTES..`: a file in the store from here on, of these hexadecimal bytes, so many times over; of
 ///   several such lines with one name each adds its bytes. `& NAME TEXT`: the same of a line of text, with its LF.
-/// - `= NAME` begins a dialogue.
+/// - `= NAME` begins a dialogue. `% once`: nothing is in its way.
 /// - `% terminal`: a person types. `% batch`: a script is all. With neither a program gives lines. `% talk`: the machine's
 ///   terminal comes first. `% script NAME`: the lines of a file are done first. `% strict`, `% no-save`: as those options of
 ///   the program. `% ends`: the keyboard ends with its last read. `% slice N`: turns of a step, which matter; with no such
@@ -33,6 +33,8 @@ pub(crate) struct Talks {
     talk: Talk,
     /// Whether a dialogue has begun.
     has_begun: bool,
+    /// How often memory was wanted.
+    wants: u32,
     tally: Tally,
 }
 
@@ -42,6 +44,7 @@ impl Talks {
             files: Vec::new(alloc),
             talk: Talk::new(alloc, String::new(alloc)),
             has_begun: false,
+            wants: 0,
             tally: Tally::new(alloc),
         }
     }
@@ -61,15 +64,15 @@ impl Talks {
             Some('<') => self.take_read(alloc, None, rest)?,
             Some('+') => self.take_early(alloc, rest)?,
             Some('^') => self.take_event(alloc, rest)?,
-            Some('?') => push_line(alloc, &mut self.talk.screen, rest)?,
+            Some('?') => push_line(alloc, &mut self.talk.sight.screen, rest)?,
             Some('/') => {
                 let bytes = spelled(alloc, rest)?;
-                self.talk.screen.extend_from_slice(bytes.as_slice())?;
+                self.talk.sight.screen.extend_from_slice(bytes.as_slice())?;
             }
-            Some('!') => push_line(alloc, &mut self.talk.errors, rest)?,
-            Some(':') => push_text(&mut self.talk.record, rest)?,
-            Some('~') => push_text(&mut self.talk.past, rest)?,
-            Some('$') => push_text(&mut self.talk.requests, rest)?,
+            Some('!') => push_line(alloc, &mut self.talk.sight.errors, rest)?,
+            Some(':') => push_text(&mut self.talk.sight.record, rest)?,
+            Some('~') => push_text(&mut self.talk.sight.past, rest)?,
+            Some('$') => push_text(&mut self.talk.sight.requests, rest)?,
             Some(_) => return Err(bad_line(alloc, line)),
         }
         Ok(())
@@ -78,6 +81,9 @@ impl Talks {
     /// Gives up what came of all dialogues.
     pub(crate) fn finish(mut self, alloc: Global) -> Result<Tally, Wrong> {
         self.hold_last(alloc)?;
+        if self.wants == 0 && self.tally.failures.is_empty() {
+            return Err(bad_line(alloc, "no step wanted memory"));
+        }
         Ok(self.tally)
     }
 
@@ -86,7 +92,13 @@ impl Talks {
         if !self.has_begun {
             return Ok(());
         }
-        let held = hold_all(alloc, &self.talk, self.files.as_slice());
+        let held = match hold_all(alloc, &self.talk, self.files.as_slice()) {
+            Ok(wants) => {
+                self.wants = self.wants.saturating_add(wants);
+                Ok(())
+            }
+            Err(wrong) => Err(wrong),
+        };
         self.tally.count(held)
     }
 
@@ -161,7 +173,7 @@ impl Talks {
         } else if let Some(line) = text.strip_prefix("past ") {
             self.talk.earlier.push(spelled(alloc, line)?)?;
         } else if let Some(status) = text.strip_prefix("status ") {
-            self.talk.status = number(alloc, status)?;
+            self.talk.sight.status = number(alloc, status)?;
         } else if !self.talk.take_flag(text) {
             return Err(bad_line(alloc, text));
         }

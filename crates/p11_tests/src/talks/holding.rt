@@ -48,11 +48,7 @@ fn hold_counted<L: Ledger, A: Allocator + Copy>(
 }
 
 /// Gives a console what it has before its first step.
-fn begin<A: Allocator + Copy>(
-    heap: A,
-    console: &mut Console<A>,
-    talk: &Talk,
-) -> Result<(), Wrong> {
+fn begin<A: Allocator + Copy>(heap: A, console: &mut Console<A>, talk: &Talk) -> Result<(), Wrong> {
     console.resized(talk.columns as usize);
     for line in talk.earlier.as_slice() {
         if console.remember(heap, line.as_slice()).is_err() {

@@ -1,6 +1,5 @@
 // The host of a dialogue: its files are those of a store in memory.
 use crate::data::{Shelf, Wrong, bad_line};
-use crate::talks::spelling::shown;
 use p11_console::{Console, PutFault, Trouble, Want};
 use p11_panel::Store;
 use std::alloc::{Allocator, Global};
@@ -13,7 +12,7 @@ pub(crate) struct Host<L: Ledger> {
     pub(crate) shelf: Shelf<L>,
     written: Vec<Vec<u8>>,
     /// A line for each request.
-    pub(crate) requests: String,
+    pub(crate) requests: Vec<u8>,
 }
 
 impl<L: Ledger> Host<L> {
@@ -22,7 +21,7 @@ impl<L: Ledger> Host<L> {
             alloc,
             shelf,
             written: Vec::new(alloc),
-            requests: String::new(alloc),
+            requests: Vec::new(alloc),
         }
     }
 
@@ -76,7 +75,10 @@ impl<L: Ledger> Host<L> {
         image: &[u8],
         may_replace: bool,
     ) -> Result<Result<(), PutFault>, Wrong> {
-        let is_own = self.written.iter().any(|other| other.as_slice() == name.as_slice());
+        let is_own = self
+            .written
+            .iter()
+            .any(|other| other.as_slice() == name.as_slice());
         if !may_replace && !is_own && self.shelf.bytes_under(name.as_slice()).is_some() {
             self.note("put", name.as_slice(), ", which is there")?;
             return Ok(Err(PutFault::There));
@@ -93,12 +95,9 @@ impl<L: Ledger> Host<L> {
 
     /// Notes a request.
     fn note(&mut self, deed: &str, name: &[u8], more: &str) -> Result<(), Wrong> {
-        let name = shown(self.alloc, name)?;
-        self.requests.push_str(deed)?;
-        self.requests.push_str(" ")?;
-        self.requests.push_str(name.as_str())?;
-        self.requests.push_str(more)?;
-        self.requests.push_str("\n")?;
+        for part in [deed.as_bytes(), b" ", name, more.as_bytes(), b"\n"] {
+            self.requests.extend_from_slice(part)?;
+        }
         Ok(())
     }
 }

@@ -67,8 +67,8 @@ fn sum(bytes: &[u8]) -> u64 {
 
 /// The record of a dialogue is the dialogue: each of its lines is taken by a session on a new machine of the same size; the
 /// state behind it is that of the console's machine, where that was looked at, and so are the files that it saves. What its
-/// runs type and what its lines answer stands in the dialogue's stream, piece by piece and in this order; of a script that is
-/// all the answers are the stream but for refusals. That the stream has nothing that no line of the record gives isn't shown
+/// runs type and what its lines answer, but OK and STOP, stands in the dialogue's stream, piece by piece and in this order; of a
+/// script that is all the answers are the stream but for refusals. That the stream has nothing that no line of the record gives isn't shown
 /// by this: that the stream is the expected one is.
 pub(crate) fn gives_the_same(
     alloc: Global,
@@ -78,7 +78,7 @@ pub(crate) fn gives_the_same(
 ) -> Result<(), Wrong> {
     let record = came.record_text(alloc)?;
     let again = play_record(alloc, files, record.as_str())?;
-    let stream = came.screen.as_slice();
+    let stream = came.sight.screen.as_slice();
     if talk.settings.manner == Manner::Batch {
         let accepted = without_refusals(alloc, stream)?;
         same(alloc, place, accepted.as_str(), again.answers.as_str())?;
@@ -115,13 +115,13 @@ fn without_refusals(alloc: Global, stream: &[u8]) -> Result<String, Wrong> {
     Ok(text)
 }
 
-/// What the answers to a record have of typed bytes and other answers than those of runs stands in a stream, in order.
+/// What the answers to a record have of typed bytes, and of other answers than OK and those of runs, stands in a stream, in order.
 fn has_pieces(alloc: Global, place: &str, stream: &[u8], answers: &str) -> Result<(), Wrong> {
     let mut rest = stream;
     for line in answers.lines() {
         let piece = if let Some(text) = line.strip_prefix("TTY ") {
             bytes_of(alloc, text)?
-        } else if line.starts_with("STOP ") {
+        } else if line.starts_with("STOP ") || line == "OK" {
             continue;
         } else {
             ended(alloc, line)?

@@ -1,6 +1,6 @@
 // Who sits at a console: gives it what comes, takes what it shows, and does what it wants.
 use crate::data::{Wrong, bad_line, text_of};
-use crate::talks::came::Came;
+use crate::talks::came::{Came, Sight};
 use crate::talks::hoard::Hoard;
 use crate::talks::host::Host;
 use crate::talks::records::files_saved;
@@ -30,10 +30,7 @@ pub(crate) struct Sitting<'a, L: Ledger, A: Allocator> {
     hoard: Hoard<A>,
     talk: &'a Talk,
     trouble: Trouble,
-    screen: Vec<u8>,
-    errors: Vec<u8>,
-    record: Vec<u8>,
-    past: Vec<u8>,
+    sight: Sight,
     /// The next event, and of a read that comes byte by byte the next one.
     at: usize,
     byte: usize,
@@ -41,8 +38,9 @@ pub(crate) struct Sitting<'a, L: Ledger, A: Allocator> {
     /// The steps since the last event.
     since: u32,
     is_closed: bool,
-    /// How many looks were begun, and what the screen, the record and the past had before the first.
+    /// How many looks were begun; how many steps there were before the first, and what the screen, the record and the past had.
     looks: usize,
+    steps_before: u32,
     marks: [usize; 3],
     wants: u32,
     is_poor: bool,
@@ -64,16 +62,14 @@ impl<'a, L: Ledger, A: Allocator + Copy> Sitting<'a, L, A> {
             hoard: Hoard::new(alloc, heap),
             talk,
             trouble,
-            screen: Vec::new(alloc),
-            errors: Vec::new(alloc),
-            record: Vec::new(alloc),
-            past: Vec::new(alloc),
+            sight: Sight::new(alloc),
             at: 0,
             byte: 0,
             steps: 0,
             since: 0,
             is_closed: false,
             looks: 0,
+            steps_before: 0,
             marks: [0; 3],
             wants: 0,
             is_poor: false,
@@ -105,22 +101,21 @@ impl<'a, L: Ledger, A: Allocator + Copy> Sitting<'a, L, A> {
     /// What it came to.
     pub(crate) fn came(mut self) -> Result<Came, Wrong> {
         let alloc = self.alloc;
+        let mut sight = mem::replace(&mut self.sight, Sight::new(alloc));
         let mut state = Vec::new(alloc);
         if self.looks > 0 {
             let [screen, record, past] = self.marks;
-            state.extend_from_slice(&self.screen.as_slice()[screen.min(self.screen.len())..])?;
-            self.screen.truncate(screen);
-            self.record.truncate(record);
-            self.past.truncate(past);
+            state.extend_from_slice(&sight.screen.as_slice()[screen.min(sight.screen.len())..])?;
+            sight.screen.truncate(screen);
+            sight.record.truncate(record);
+            sight.past.truncate(past);
+            self.steps = self.steps_before;
         }
-        let record = text_of(alloc, Vec::from_slice(alloc, self.record.as_slice())?)?;
+        sight.requests = mem::replace(&mut self.host.requests, Vec::new(alloc));
+        sight.status = u32::from(self.console.status());
+        let record = text_of(alloc, Vec::from_slice(alloc, sight.record.as_slice())?)?;
         Ok(Came {
-            screen: mem::replace(&mut self.screen, Vec::new(alloc)),
-            errors: mem::replace(&mut self.errors, Vec::new(alloc)),
-            record: mem::replace(&mut self.record, Vec::new(alloc)),
-            past: mem::replace(&mut self.past, Vec::new(alloc)),
-            requests: mem::replace(&mut self.host.requests, String::new(alloc)),
-            status: self.console.status(),
+            sight,
             state: text_of(alloc, state)?,
             files: files_saved(alloc, &self.host.shelf, record.as_str())?,
             steps: self.steps,
@@ -181,10 +176,13 @@ impl<'a, L: Ledger, A: Allocator + Copy> Sitting<'a, L, A> {
     }
 
     /// A step that wanted memory has shown nothing.
-    fn is_unchanged(&mut self) -> Result<(), Wrong> {
-        let len = self.screen.len() + self.record.len() + self.past.len() + self.errors.len();
-        self.take(usize::MAX)?;
-        if len == self.screen.len() + self.record.len() + self.past.len() + self.errors.len() {
+    fn is_unchanged(&self) -> Result<(), Wrong> {
+        let console = &self.console;
+        if console.screen().is_empty()
+            && console.record().is_empty()
+            && console.past().is_empty()
+            && console.errors().is_empty()
+        {
             return Ok(());
         }
         Err(bad_line(self.alloc, "something was shown for want of memory"))
@@ -193,18 +191,18 @@ impl<'a, L: Ledger, A: Allocator + Copy> Sitting<'a, L, A> {
     /// Takes so many bytes at most of what there is to write.
     fn take(&mut self, most: usize) -> Result<(), Wrong> {
         let screen = front(self.console.screen(), most);
-        self.screen.extend_from_slice(screen)?;
+        self.sight.screen.extend_from_slice(screen)?;
         let count = screen.len();
         self.console.shown(count);
         let record = front(self.console.record(), most);
-        self.record.extend_from_slice(record)?;
+        self.sight.record.extend_from_slice(record)?;
         let count = record.len();
         self.console.recorded(count);
         let past = front(self.console.past(), most);
-        self.past.extend_from_slice(past)?;
+        self.sight.past.extend_from_slice(past)?;
         let count = past.len();
         self.console.kept(count);
-        self.errors.extend_from_slice(self.console.errors())?;
+        self.sight.errors.extend_from_slice(self.console.errors())?;
         self.console.told();
         Ok(())
     }
@@ -241,7 +239,12 @@ impl<'a, L: Ledger, A: Allocator + Copy> Sitting<'a, L, A> {
         }
         if self.looks == 0 {
             self.take(usize::MAX)?;
-            self.marks = [self.screen.len(), self.record.len(), self.past.len()];
+            self.marks = [
+                self.sight.screen.len(),
+                self.sight.record.len(),
+                self.sight.past.len(),
+            ];
+            self.steps_before = self.steps;
         }
         let Some(line) = LOOKS.get(self.looks) else {
             return Ok(false);

@@ -41,7 +41,11 @@ pub(crate) fn shown(alloc: Global, bytes: &[u8]) -> Result<String, Wrong> {
         match *byte {
             b'\n' | b' '..=b'[' | b']'..=b'~' => text.push(*byte)?,
             code => {
-                let digits = [b'0' + (code >> 6), b'0' + (code >> 3 & 7), b'0' + (code & 7)];
+                let digits = [
+                    b'0' + (code >> 6),
+                    b'0' + (code >> 3 & 7),
+                    b'0' + (code & 7),
+                ];
                 text.push(b'\\')?;
                 text.extend_from_slice(&digits)?;
             }

@@ -1,6 +1,5 @@
 // A dialogue that is written down.
-use crate::data::Wrong;
-use crate::talks::spelling::shown;
+use crate::talks::came::Sight;
 use p11_console::{Manner, Settings};
 use std::alloc::Global;
 
@@ -32,6 +31,8 @@ pub(crate) struct Talk {
     pub(crate) settings: Settings,
     /// Whether the keyboard ends with its last read, and not only once the console wants more.
     pub(crate) is_ended: bool,
+    /// Whether it is held once, with nothing in its way.
+    pub(crate) is_once: bool,
     /// Turns of a step at most; 0: it doesn't matter.
     pub(crate) slice: u32,
     /// The bytes of its heap; 0: as much as there is.
@@ -42,18 +43,8 @@ pub(crate) struct Talk {
     /// The lines of an earlier dialogue.
     pub(crate) earlier: Vec<Vec<u8>>,
     pub(crate) events: Vec<Coming>,
-    /// What is shown: what the machine types, and what the console says.
-    pub(crate) screen: Vec<u8>,
-    /// What is said of a script that nobody watches.
-    pub(crate) errors: Vec<u8>,
-    /// The lines of the record.
-    pub(crate) record: Vec<u8>,
-    /// The lines for the history's file; with none they aren't compared.
-    pub(crate) past: Vec<u8>,
-    /// What the host is asked for, a line for each request.
-    pub(crate) requests: Vec<u8>,
-    /// The status of a program that holds it.
-    pub(crate) status: u32,
+    /// What is to come of it. With no lines for the history's file these aren't compared.
+    pub(crate) sight: Sight,
 }
 
 impl Talk {
@@ -69,18 +60,14 @@ impl Talk {
                 is_talk: false,
             },
             is_ended: false,
+            is_once: false,
             slice: 0,
             heap: 0,
             refused: 0,
             columns: 80,
             earlier: Vec::new(alloc),
             events: Vec::new(alloc),
-            screen: Vec::new(alloc),
-            errors: Vec::new(alloc),
-            record: Vec::new(alloc),
-            past: Vec::new(alloc),
-            requests: Vec::new(alloc),
-            status: 0,
+            sight: Sight::new(alloc),
         }
     }
 
@@ -93,21 +80,9 @@ impl Talk {
             "strict" => self.settings.is_strict = true,
             "no-save" => self.settings.is_saveless = true,
             "ends" => self.is_ended = true,
+            "once" => self.is_once = true,
             _ => return false,
         }
         true
-    }
-
-    /// What is to come of it, as `Came::text` gives it.
-    pub(crate) fn text(&self, alloc: Global) -> Result<String, Wrong> {
-        let screen = shown(alloc, self.screen.as_slice())?;
-        let errors = shown(alloc, self.errors.as_slice())?;
-        let record = shown(alloc, self.record.as_slice())?;
-        let past = shown(alloc, self.past.as_slice())?;
-        let requests = shown(alloc, self.requests.as_slice())?;
-        let status = self.status;
-        Ok(format!(in alloc;
-            "{screen}\nerrors: {errors}\nrecord:\n{record}\npast:\n{past}\nrequests:\n{requests}\nstatus {status}"
-        )?)
     }
 }
