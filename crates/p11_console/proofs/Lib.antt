@@ -3,3 +3,4 @@ pub mod Resting
 pub mod Removing
 pub mod Meanings
 pub mod WordsCompleted
+pub mod Once

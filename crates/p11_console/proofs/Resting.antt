@@ -2,7 +2,7 @@
 use Rattle.std.proofs.Common.{◌≡◌, refl, sym, subst}
 use Rattle.std.specs.Prelude.{IsTrue}
 use Rattle.p11_console.specs.State.{ConsoleState}
-use Rattle.p11_console.specs.Steps.{Rests, RunRests, TypingRests, takes_memory}
+use Rattle.p11_console.specs.Steps.{Rests, RestsForKeys, RunRests, TypingRests, takes_memory}
 use Rattle.p11_console.specs.declared.run.Run.{Run}
 use Rattle.p11_console.specs.declared.want.Want.{Want}
 use Rattle.p11_console.specs.declared.want.Want.TheVariants as wants
@@ -20,10 +20,13 @@ running_rests wants.End run c e h = absurd h
 
 pub typing_rests : {A : Type 0} (want : Want) (c : ConsoleState A) → c.way ≡ Typing → TypingRests want c → Rests want c
 typing_rests wants.Step c e h = h
-typing_rests wants.Keys c e h = (e, h.0, h.1, h.2)
+typing_rests wants.Keys c e h = subst (λ way. RestsForKeys way c) (sym e) h
 typing_rests wants.Idle c e h = absurd h
 typing_rests wants.Memory c e h = subst (λ way. IsTrue (takes_memory way)) (sym e) refl
 typing_rests wants.Fetch c e h = absurd h
 typing_rests wants.Put c e h = absurd h
 typing_rests wants.Names c e h = absurd h
 typing_rests wants.End c e h = absurd h
+
+pub answer_rests : {A : Type 0} (want : Want) (c : ConsoleState A) → want ≡ wants.Keys → RestsForKeys c.way c → Rests want c
+answer_rests want c is h = subst (λ w. Rests w c) (sym is) h

@@ -46,6 +46,11 @@ file_command (lines.Mount drive name protect) bytes = Some (commands.Mount drive
 file_command (lines.Load name) bytes = Some (commands.Load bytes)
 file_command _ bytes = None
 
+-- the lines of a file come next, where nothing is under way
+abbrev pub opening : {A : Type 0} → List ℕ → Way A → Way A
+opening name Free = Opening name
+opening name way = way
+
 -- a file that is there may be written over
 abbrev pub may_replace : {A : Type 0} → Way A → Bool
 may_replace (Putting line image text is_agreed) = is_agreed

@@ -12,3 +12,4 @@ pub mod State
 pub mod Tries
 pub mod Steps
 pub mod Files
+pub mod Once

@@ -1,5 +1,5 @@
 -- How a dialogue is held, and so how a line is tried.
-use Rattle.std.specs.Prelude.{Bool, true, false, not, ◌&&◌}
+use Rattle.std.specs.Prelude.{Bool, true, false}
 use Rattle.p11_console.specs.declared.settings.Manner.{Manner}
 use Rattle.p11_console.specs.declared.settings.Manner.TheVariants.{Typed, Batch}
 use Rattle.p11_console.specs.declared.settings.Settings.{Settings}
@@ -13,11 +13,11 @@ abbrev pub is_batch : Manner → Bool
 is_batch Batch = true
 is_batch _ = false
 
--- a person is asked before a file is written over, but by a line of a script
-unfoldable pub trying : Settings → Bool → Trying
-trying settings is_scripted =
+-- a person is asked before a file is written over
+unfoldable pub tried_by : Settings → Trying
+tried_by settings =
     record {
       is_whole = is_batch settings.manner;
       is_saveless = settings.is_saveless;
-      is_asking = is_person settings.manner && not is_scripted;
+      is_asking = is_person settings.manner;
     }

@@ -38,9 +38,11 @@ has_interrupt keys = is_some (position is_interrupt keys)
 abbrev pub slices_or_rests : Run → Course
 slices_or_rests run = if run.is_idle then Rests else Slices
 
--- no key waits: the end of the keyboard ends a talk, of a program that gives lines once the machine is quiet
+-- No key waits. The end of the keyboard ends a talk; of a program the next line is waited for, or the end found, once the
+-- machine types nothing.
 abbrev pub without_keys : Run → Bool → Bool → Course
-without_keys run is_person is_over = if is_over && (is_person || run.is_quiet) then Ends else slices_or_rests run
+without_keys run true is_over = if is_over then Ends else slices_or_rests run
+without_keys run false is_over = if run.is_quiet then (if is_over then Ends else Rests) else Slices
 
 -- keys wait, and the machine takes none, because it idles or made 200 slices without taking one: a Ctrl-E behind them ends
 -- the talk, or the end of the keyboard where the machine idles

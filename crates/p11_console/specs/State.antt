@@ -22,6 +22,8 @@ pub record ConsoleState (A : Type 0) : Type 0 where
   -- the line that is typed, and what an empty one shows
   pub typist : Typist A
   pub place : Place
+  -- the line that was done last is `step` alone, or an empty one behind it
+  pub is_stepping : Bool
   -- the lines that the typed one means and that aren't done yet, and those of a script
   pub lines : List ℕ
   pub script : List ℕ
@@ -52,6 +54,7 @@ opened machine settings =
       ticks = 0;
       typist = fresh;
       place = Nowhere;
+      is_stepping = false;
       lines = [];
       script = [];
       is_scripted = false;

@@ -1,5 +1,5 @@
 -- What a console does at a step.
-use Rattle.std.specs.Prelude.{◌≡◌, ℕ, ◌-◌, Bool, true, false, not, ◌&&◌, ◌||◌, nat_lt, nat_eq, List, [], ◌++◌, length, drop, position, is_some, slice_get, Option, Some, None, Result, Ok, Err, IsTrue, if◌then◌else◌}
+use Rattle.std.specs.Prelude.{◌≡◌, ℕ, ◌-◌, Bool, true, false, not, ◌&&◌, ◌||◌, nat_lt, nat_eq, List, [], ◌++◌, length, drop, position, is_some, is_none, slice_get, Option, Some, None, Result, Ok, Err, IsTrue, if◌then◌else◌}
 use Rattle.std.specs.Bool.{MatchBool}
 use Rattle.p11_lines.specs.declared.answer.Answer.{Answer}
 use Rattle.p11_lines.specs.declared.answer.Answer.TheVariants as answers
@@ -17,18 +17,18 @@ use Rattle.p11_phrases.specs.declared.place.Place.{Place}
 use Rattle.p11_phrases.specs.declared.refusal.Refusal.{Refusal}
 use Rattle.p11_phrases.specs.Phrases.{meaning}
 use Rattle.p11_console.specs.Lines.{first_line, behind_line, is_line_feed}
-use Rattle.p11_console.specs.Manner.{is_person, is_batch, trying}
-use Rattle.p11_console.specs.Own.{own_of}
+use Rattle.p11_console.specs.Manner.{is_person, is_batch, tried_by}
+use Rattle.p11_console.specs.Own.{own_of, verb_of}
 use Rattle.p11_console.specs.Record.{run_text, keys_text, tick_text}
 use Rattle.p11_console.specs.Runs.{talk_of, course_of, given_keys, behind_escape, without_interrupt, slice_turns, at_slice, pressed_on, recorded_on, next_run, goes_on, typed_in}
 use Rattle.p11_console.specs.Said.{Says, SaysBefore}
 use Rattle.p11_console.specs.Saved.{any_unsaved, all_drives}
 use Rattle.p11_console.specs.State.{ConsoleState}
 use Rattle.p11_console.specs.Stops.{stop_text}
-use Rattle.p11_console.specs.Tries.{DoesLine, Tries, refused}
+use Rattle.p11_console.specs.Tries.{DoesLine, Tries, refused, run_begun}
 use Rattle.p11_console.specs.Typing.{taken, line_of, kept_line, past_of, outcome_way, CompletedBy}
 use Rattle.p11_console.specs.declared.own.Own.{Own}
-use Rattle.p11_console.specs.declared.own.Own.TheVariants.{Quit}
+use Rattle.p11_console.specs.declared.own.Own.TheVariants.{Quit, Once}
 use Rattle.p11_console.specs.declared.run.Run.{Run}
 use Rattle.p11_console.specs.declared.run.Course.{Course}
 use Rattle.p11_console.specs.declared.run.Course.TheVariants as course
@@ -55,6 +55,10 @@ abbrev pub is_quit : Own → Bool
 is_quit Quit = true
 is_quit _ = false
 
+abbrev pub is_once : Own → Bool
+is_once Once = true
+is_once _ = false
+
 -- the warning stands while nothing but `quit` is asked for
 unfoldable pub still_warned : Bool → List ℕ → Bool
 still_warned is_warned line = is_warned && is_quit (own_of line)
@@ -62,10 +66,11 @@ still_warned is_warned line = is_warned && is_quit (own_of line)
 -- the first of the lines that the typed one means is said and done, and is gone
 abbrev pub DoesMeant : {A : Type 0} → ConsoleState A → ConsoleState A → Type 0
 DoesMeant c c' =
-    DoesLine (trying c.settings false) (first_line c.lines) c.machine c'.way c'.machine × Says c.screen c'.screen
+    DoesLine (tried_by c.settings) (first_line c.lines) c.machine c'.way c'.machine × Says c.screen c'.screen
     × (c' ≡ record c {
       machine = c'.machine;
       lines = behind_line c.lines;
+      is_stepping = is_once (own_of (first_line c.lines));
       is_scripted = false;
       is_warned = still_warned c.is_warned (first_line c.lines);
       screen = c'.screen;
@@ -75,7 +80,7 @@ DoesMeant c c' =
 -- the first line of the script is done, and is gone
 abbrev pub DoesScripted : {A : Type 0} → ConsoleState A → ConsoleState A → Type 0
 DoesScripted c c' =
-    Tries (trying c.settings true) (first_line c.script) c.machine c'.way c'.machine
+    Tries (tried_by c.settings) (first_line c.script) c.machine c'.way c'.machine
     × (c' ≡ record c {
       machine = c'.machine;
       script = behind_line c.script;
@@ -128,7 +133,7 @@ has_given is_over waiting = is_some (position is_line_feed waiting) || (is_over 
 -- the first line that a program has given is done
 abbrev pub DoesGiven : {A : Type 0} → ConsoleState A → ConsoleState A → Type 0
 DoesGiven c c' =
-    DoesLine (trying c.settings false) (first_line c.waiting) c.machine c'.way c'.machine × Says c.screen c'.screen
+    DoesLine (tried_by c.settings) (first_line c.waiting) c.machine c'.way c'.machine × Says c.screen c'.screen
     × (c' ≡ record c {
       machine = c'.machine;
       waiting = behind_line c.waiting;
@@ -157,10 +162,11 @@ Completes c c' =
 -- a line is done as it stands, or the lines in its place are done next
 abbrev pub DoesPhrase : {A : Type 0} → Option (List ℕ) → Place → List ℕ → ConsoleState A → ConsoleState A → Type 0
 DoesPhrase None place line c c' =
-    DoesLine (trying c.settings false) line c.machine c'.way c'.machine × Says c.screen c'.screen
+    DoesLine (tried_by c.settings) line c.machine c'.way c'.machine × Says c.screen c'.screen
     × (c' ≡ record c {
       machine = c'.machine;
       place = place;
+      is_stepping = is_once (own_of line);
       is_scripted = false;
       is_warned = still_warned c.is_warned line;
       screen = c'.screen;
@@ -169,12 +175,23 @@ DoesPhrase None place line c c' =
 DoesPhrase (Some lines) place line c c' = c' ≡ record c { place = place; lines = lines; way = ways.Free }
 
 abbrev pub ReadsAs : {A : Type 0} → Result (Phrase A) Refusal → List ℕ → ConsoleState A → ConsoleState A → Type 0
-ReadsAs (Err refusal) line c c' = c' ≡ record c { is_scripted = false; way = refused (answers.Refused BadLine) }
+ReadsAs (Err refusal) line c c' = c' ≡ record c { is_stepping = false; is_scripted = false; way = refused (answers.Refused BadLine) }
 ReadsAs (Ok phrase) line c c' = DoesPhrase phrase.lines phrase.place line c c'
+
+-- an empty line behind `step` does it once more
+abbrev pub steps_again : {A : Type 0} → ConsoleState A → Bool
+steps_again c = c.is_stepping && nat_eq (length (verb_of c.typist.editor.line.text)) 0
+
+abbrev pub StepsAgain : {A : Type 0} → ConsoleState A → ConsoleState A → Type 0
+StepsAgain c c' =
+    Says c.screen c'.screen
+    × (c' ≡ record c { is_scripted = false; is_warned = false; screen = c'.screen; way = run_begun 1 false })
 
 -- the line that was typed is read
 unfoldable pub Reads : {A : Type 0} → ConsoleState A → ConsoleState A → Type 0
-Reads c c' = ReadsAs (meaning c.place c.typist.editor.line.text) c.typist.editor.line.text c c'
+Reads c c' =
+    MatchBool (steps_again c) (StepsAgain c c')
+    (ReadsAs (meaning c.place c.typist.editor.line.text) c.typist.editor.line.text c c')
 
 -- ---- a run
 
@@ -219,7 +236,7 @@ Runs turns run c c' = RunsBy (course_now run c) turns run c c'
 
 -- no key waits, or of a program no line
 abbrev pub lacks_keys : {A : Type 0} → ConsoleState A → Bool
-lacks_keys c = if is_by_person c then not (has_some c.waiting) else not (has_given c.is_over c.waiting)
+lacks_keys c = if is_by_person c then is_none (slice_get c.waiting 0) else not (has_given c.is_over c.waiting)
 
 -- keys do nothing for want of them, or of memory
 abbrev pub TypingRests : {A : Type 0} → Want → ConsoleState A → Type 0

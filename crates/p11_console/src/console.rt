@@ -3,12 +3,12 @@ ghost use Rattle.std.specs.Prelude.{◌≡◌, ◌++◌, ◌≤◌, ◌+◌, ◌
 ghost use Rattle.p11_line_editor.specs.Completion.{word_of};
 ghost use Rattle.p11_lines.specs.AnswerText.{text_of};
 ghost use Rattle.p11_cpu.specs.OperatorDevices.{room_of};
-ghost use Rattle.p11_console.specs.Files.{Gives, Takes, TakesPut, Names, file_of, wanted, image_in, may_replace, way_missing};
+ghost use Rattle.p11_console.specs.Files.{Gives, Takes, TakesPut, Names, file_of, wanted, image_in, may_replace, opening, way_missing};
 ghost use Rattle.p11_console.specs.Manner.{is_person, is_batch};
 ghost use Rattle.p11_console.specs.Runs.{talk_of};
 ghost use Rattle.p11_console.specs.Said.{Says, SaysBefore};
 ghost use Rattle.p11_console.specs.State.{opened};
-ghost use Rattle.p11_console.specs.Steps.{Steps, Moves, Rests, FindsLine, DoesMeant, DoesScripted, Begins, Types, TakesKey, TakesLine, has_given, Completes, Reads, DoesPhrase, Runs, RunRests, TypingRests, RestsForKeys, TicksIn, RunsBy, Answers, IsAsking, DoesGiven, agrees, Leaves, still_warned, is_quit, is_refusal, goes_behind, status_of, way_ended, stopped_by};
+ghost use Rattle.p11_console.specs.Steps.{Steps, Moves, Rests, FindsLine, DoesMeant, DoesScripted, Begins, Types, TakesKey, TakesLine, has_given, Completes, Reads, DoesPhrase, Runs, RunRests, TypingRests, RestsForKeys, TicksIn, RunsBy, Answers, IsAsking, DoesGiven, agrees, Leaves, still_warned, is_quit, is_once, StepsAgain, is_refusal, goes_behind, status_of, way_ended, stopped_by};
 ghost use Rattle.p11_console.specs.Stops.{stop_text};
 ghost use Rattle.p11_console.specs.Typing.{rested, kept_line, past_of};
 ghost use Rattle.p11_line_editor.specs.History.{remembered};
@@ -20,17 +20,17 @@ use crate::help::help_on;
 use crate::lines::{drop_line, first_line, line_end};
 use crate::misfit::add_meanings;
 use crate::note::Note;
-use crate::own::{Own, own_of};
+use crate::own::{Own, own_of, verb_and_rest};
 use crate::packs::{Packs, any_unsaved};
 use crate::reasons::note_of_file;
 use crate::record::{record_keys, record_run, record_tick};
 use crate::run::{Course, Run, course_of, pressed_on, talk_of};
 use crate::scripts::Script;
-use crate::settings::{Settings, is_batch, is_person, trying};
+use crate::settings::{Settings, is_batch, is_person, tried_by};
 use crate::slices::{at_slice, given_keys, show_slice, slice, take_escape, take_interrupt};
 use crate::stop::{Cause, Stop, put_stop, stop_of};
 use crate::text::Text;
-use crate::tries::{do_line, refused, try_text};
+use crate::tries::{begin_run, do_line, refused, try_text};
 use crate::trouble::{PutFault, Trouble};
 use crate::typist::{Typist, outcome_way};
 use crate::want::Want;
@@ -55,6 +55,7 @@ pub struct Console<A: Allocator = Global> {
     ticks: u32,
     typist: Typist<A>,
     place: Place,
+    is_stepping: bool,
     lines: Buffer<A>,
     script: Buffer<A>,
     is_scripted: bool,
@@ -74,8 +75,8 @@ pub struct Console<A: Allocator = Global> {
     columns: usize,
     /// Where the script's lines stand.
     source: Script<A>,
-    /// The names of the files that weren't written, each with a space before it.
-    unwritten: Vec<u8, A>,
+    /// The names of the files that weren't written.
+    unwritten: Vec<Bytes<A>, A>,
 }
 
 impl<A: Allocator> Drop for Console<A> {
@@ -89,6 +90,7 @@ impl<A: Allocator> Drop for Console<A> {
             ticks: _,
             typist: _,
             place: _,
+            is_stepping: _,
             lines: _,
             script: _,
             is_scripted: _,
@@ -123,6 +125,7 @@ impl<A: Allocator> Model for Console<A> {
       ticks = c.ticks;
       typist = c.typist;
       place = c.place;
+      is_stepping = c.is_stepping;
       lines = c.lines;
       script = c.script;
       is_scripted = c.is_scripted;
@@ -152,6 +155,7 @@ impl<A: Allocator + Copy> Console<A> {
             ticks: 0,
             typist: Typist::new(alloc),
             place: Place::Nowhere,
+            is_stepping: false,
             lines: Buffer::new(alloc),
             script: Buffer::new(alloc),
             is_scripted: false,
@@ -173,14 +177,16 @@ impl<A: Allocator + Copy> Console<A> {
 
     /// The lines of the file of this name come next, where nothing is under way.
     pub fn open(&mut self, alloc: A, name: &[u8]) -> Result<(), NoMemory>
-        ensures ok { OnOk result (self.new ≡ record self.old { way = Way.Opening name.now }) }
+        ensures ok { OnOk result (self.new ≡ record self.old { way = opening name.now self.old.way }) }
         ensures err { OnErr result (self.new ≡ self.old) }
     {
         let mut copy = Vec::new(alloc);
         copy.extend_from_slice(name)?;
-        self.way.set(Way::Opening {
-            name: Bytes::from_vec(copy),
-        });
+        if let Way::Free = self.way.get() {
+            self.way.set(Way::Opening {
+                name: Bytes::from_vec(copy),
+            });
+        }
         Ok(())
     }
 
@@ -227,6 +233,13 @@ impl<A: Allocator + Copy> Console<A> {
         ensures { self.new ≡ self.old }
     {
         self.columns = columns;
+    }
+
+    /// The machine.
+    pub fn panel(&self) -> &Panel<A>
+        ensures { result.now ≡ self.now.machine }
+    {
+        &self.panel
     }
 
     /// The bytes for the screen that the host hasn't taken.
@@ -531,7 +544,7 @@ impl<A: Allocator + Copy> Console<A> {
     }
 
     /// Does that, but for bringing something else under way.
-    #[tactic(auto, using(crate::proofs::Resting::running_rests, crate::proofs::Resting::typing_rests))]
+    #[tactic(auto, using(crate::proofs::Resting::running_rests, crate::proofs::Resting::typing_rests, crate::proofs::Resting::answer_rests))]
     fn do_next(&mut self, alloc: A, turns: u32) -> Result<Way<A>, Want>
         ensures ok { IfOk result (λ way. Moves turns self.old.way self.old (record self.new { way = way })) }
         ensures err { IfErr result (λ want. Rests want self.old) }
@@ -687,8 +700,9 @@ impl<A: Allocator + Copy> Console<A> {
         ensures same { OnErr result (self.new ≡ self.old) }
     {
         let line = first_line(self.lines.as_slice());
-        let way = do_line(alloc, &mut self.panel, trying(self.settings, false), line)?;
+        let way = do_line(alloc, &mut self.panel, tried_by(self.settings), line)?;
         self.is_warned = still_warned(self.is_warned, line);
+        self.is_stepping = is_once(own_of(line));
         self.is_scripted = false;
         self.source.leave_line();
         let mut said = meant_text(alloc, line);
@@ -704,7 +718,7 @@ impl<A: Allocator + Copy> Console<A> {
         ensures err { IfErr result (λ want. want ≡ Want.Memory) }
         ensures same { OnErr result (self.new ≡ self.old) }
     {
-        let how = trying(self.settings, true);
+        let how = tried_by(self.settings);
         let way = try_text(
             alloc,
             &mut self.panel,
@@ -778,7 +792,7 @@ impl<A: Allocator + Copy> Console<A> {
         ensures same { OnErr result (self.new ≡ self.old) }
     {
         let line = first_line(self.waiting.as_slice());
-        let way = do_line(alloc, &mut self.panel, trying(self.settings, false), line)?;
+        let way = do_line(alloc, &mut self.panel, tried_by(self.settings), line)?;
         self.is_warned = still_warned(self.is_warned, line);
         self.is_scripted = false;
         self.source.leave_line();
@@ -849,16 +863,31 @@ impl<A: Allocator + Copy> Console<A> {
         ensures err { IfErr result (λ want. want ≡ Want.Memory) }
         ensures same { OnErr result (self.new ≡ self.old) }
     {
+        if self.is_stepping && verb_and_rest(self.typist.editor.text()).0.is_empty() {
+            return Ok(self.step_again(alloc));
+        }
         match read_phrase(alloc, self.place, self.typist.editor.text()) {
             Err(Refusal::NoMemory) => Err(Want::Memory),
             Err(refusal) => {
                 let note = why_no_phrase(alloc, refusal, self.typist.editor.text());
+                self.is_stepping = false;
                 self.is_scripted = false;
                 self.source.leave_line();
                 Ok(refused(alloc, Fault::BadLine, note))
             }
             Ok(phrase) => self.do_phrase(alloc, phrase),
         }
+    }
+
+    /// Does `step` once more.
+    fn step_again(&mut self, alloc: A) -> Way<A>
+        ensures { StepsAgain self.old (record self.new { way = result }) }
+    {
+        self.is_scripted = false;
+        self.is_warned = false;
+        self.source.leave_line();
+        self.screen.say(b"= step\n");
+        begin_run(alloc, 1, false)
     }
 
     fn do_phrase(&mut self, alloc: A, phrase: Phrase<A>) -> Result<Way<A>, Want>
@@ -870,9 +899,10 @@ impl<A: Allocator + Copy> Console<A> {
         match lines {
             None => {
                 let line = self.typist.editor.text();
-                let way = do_line(alloc, &mut self.panel, trying(self.settings, false), line)?;
+                let way = do_line(alloc, &mut self.panel, tried_by(self.settings), line)?;
                 self.is_warned = still_warned(self.is_warned, line);
                 self.place = place;
+                self.is_stepping = is_once(own_of(line));
                 self.is_scripted = false;
                 self.source.leave_line();
                 let said = self.way_text(&way);
@@ -1034,23 +1064,28 @@ fn why_no_phrase<A: Allocator>(alloc: A, refusal: Refusal, typed: &[u8]) -> Note
 }
 
 /// Keeps the name of the file that a line would have written, if it is a new one.
-fn note_unwritten<A: Allocator + Copy>(alloc: A, names: &mut Vec<u8, A>, note: &Note<A>) {
+fn note_unwritten<A: Allocator + Copy>(alloc: A, names: &mut Vec<Bytes<A>, A>, note: &Note<A>) {
     let Some(name) = note.unwritten_name() else {
         return;
     };
-    let mut entry = Text::new(alloc);
-    entry.add(b" ");
-    entry.add(name);
-    let _ = names.extend_from_slice(entry.as_slice());
+    if names.as_slice().iter().any(|other| other.as_slice() == name) {
+        return;
+    }
+    let mut copy = Text::new(alloc);
+    copy.add(name);
+    let _ = names.push(Bytes::from_vec(copy.into_vec()));
 }
 
 /// Adds which files weren't written, since none was to be.
-fn add_unwritten<A: Allocator>(text: &mut Text<A>, names: &[u8]) {
+fn add_unwritten<A: Allocator>(text: &mut Text<A>, names: &[Bytes<A>]) {
     if names.is_empty() {
         return;
     }
     text.add(b"--no-save: not written:");
-    text.add(names);
+    for name in names {
+        text.add(b" ");
+        text.add(name.as_slice());
+    }
     text.add(b"\n");
 }
 
@@ -1107,6 +1142,15 @@ fn still_warned(is_warned: bool, line: &[u8]) -> bool
     is_warned && is_quit(own_of(line))
 }
 
+fn is_once(own: Own) -> bool
+    ensures { result ≡ is_once own }
+{
+    match own {
+        Own::Once => true,
+        _ => false,
+    }
+}
+
 fn is_quit(own: Own) -> bool
     ensures { result ≡ is_quit own }
 {
@@ -1140,11 +1184,7 @@ fn tell_stop<A: Allocator + Copy>(
     let len = screen.len();
     let front: &[u8] = if stop.is_fresh { b"" } else { b"\n" };
     screen.say(front);
-    if put_stop(alloc, screen, stop).is_err() {
-        screen.cut(len);
-        return Err(NoMemory);
-    }
-    if journal.push_all(text).is_err() {
+    if put_stop(alloc, screen, stop).is_err() || journal.push_all(text).is_err() {
         screen.cut(len);
         return Err(NoMemory);
     }

@@ -1,6 +1,6 @@
 // What help says.
 use crate::forms::{Form, form_at};
-use crate::note::Topic;
+use crate::note::{Subject, Topic};
 use crate::text::Text;
 use p11_phrases::WORDS;
 use std::alloc::Allocator;
@@ -16,24 +16,28 @@ const COLUMN: usize = 26;
 /// The list of lines, or what there is about one word.
 pub(crate) fn help_on<A: Allocator>(alloc: A, topic: &Topic) -> Text<A> {
     let mut text = Text::new(alloc);
-    match topic.place() {
-        Some(place) => {
+    match topic.subject() {
+        Subject::All => add_list(&mut text),
+        Subject::Word(place) => {
             if let Some(form) = form_at(place) {
                 add_all(&mut text, form);
             }
         }
-        None => {
-            for place in &ORDER {
-                if let Some(form) = form_at(*place) {
-                    add_line(&mut text, form);
-                }
-            }
-            text.add(
-                b"Octal addresses, decimal counts. Beginnings will do. help WORD says more.\n",
-            );
+        Subject::Unknown => {
+            text.add(b"There is help for one of these words:\n");
+            add_list(&mut text);
         }
     }
     text
+}
+
+fn add_list<A: Allocator>(text: &mut Text<A>) {
+    for place in &ORDER {
+        if let Some(form) = form_at(*place) {
+            add_line(text, form);
+        }
+    }
+    text.add(b"Octal addresses, decimal counts. Beginnings will do. help WORD says more.\n");
 }
 
 /// A line of the list.

@@ -3,9 +3,7 @@
 //! Nothing here reads or writes. `Console::keys` takes what a keyboard gives, `step` does one thing, and `screen` and `record`
 //! are what there is to write. A file is asked for by `Want::Fetch` and `Want::Put`.
 //!
-//! It has no lines through a pipe (without a prompt), no `save` that writes nothing, no history from a file, no sentence on a
-//! line's own fault, and doesn't know that a pack which was written was saved. Two laws are open: that a list of events has
-//! one outcome, and that the record does it again.
+//! A law is open: that the record does it again.
 #![tactic(auto)]
 
 mod buffer;
@@ -14,6 +12,7 @@ mod console;
 mod files;
 mod forms;
 mod help;
+mod laws;
 mod lines;
 mod misfit;
 mod note;
@@ -37,6 +36,7 @@ mod want;
 mod way;
 
 pub use console::Console;
+pub use laws::a_step_has_one_outcome;
 pub use note::{Note, Topic};
 pub use own::Own;
 pub use run::{Course, Run};

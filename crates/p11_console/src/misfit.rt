@@ -51,20 +51,16 @@ fn add_misfit<A: Allocator + Copy>(
     }
     match own {
         Own::Language => add_wrong_word(alloc, said, form, word, rest),
-        Own::Talk | Own::Once if !form.wanted.is_empty() || form.more.is_some() => {
+        Own::Talk | Own::Once if form.more.is_some() => {
             said.add(b"the line of a script has a count: ");
             said.add(word);
             said.add(b" TURNS");
-            return;
         }
         _ => {
             said.add(word);
             said.add(b" is for a person at the console, and not for a script");
-            return;
         }
     }
-    said.add(b": the line is ");
-    said.add(form.shown.as_bytes());
 }
 
 /// Which word is missing, wrong, or one too many.
@@ -100,7 +96,8 @@ fn add_wrong_word<A: Allocator + Copy>(
             }
             _ => {
                 said.add_quoted(next);
-                said.add(b" is one word too many");
+                said.add(b" is one word too many: the line is ");
+                said.add(form.shown.as_bytes());
                 return;
             }
         }

@@ -57,10 +57,21 @@ impl<A: Allocator> Note<A> {
     }
 }
 
-/// The word that help is asked for, by its place among the words. Contracts see nothing of it.
+/// What help is asked for. Contracts see nothing of it.
 #[derive(Drop)]
 pub struct Topic {
-    place: Option<usize>,
+    subject: Subject,
+}
+
+/// What help is asked for.
+#[derive(Clone, Copy)]
+pub(crate) enum Subject {
+    /// All lines.
+    All,
+    /// The line of the word at this place.
+    Word(usize),
+    /// A word that there isn't.
+    Unknown,
 }
 
 impl Model for Topic {
@@ -70,11 +81,11 @@ impl Model for Topic {
 }
 
 impl Topic {
-    pub(crate) fn new(place: Option<usize>) -> Self {
-        Topic { place }
+    pub(crate) fn new(subject: Subject) -> Self {
+        Topic { subject }
     }
 
-    pub(crate) fn place(&self) -> Option<usize> {
-        self.place
+    pub(crate) fn subject(&self) -> Subject {
+        self.subject
     }
 }

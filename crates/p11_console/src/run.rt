@@ -179,10 +179,19 @@ fn in_talk(run: Run, is_person: bool, is_over: bool, keys: &[u8], room: u32) -> 
 fn without_keys(run: Run, is_person: bool, is_over: bool) -> Course
     ensures { result ≡ without_keys run is_person is_over }
 {
-    if is_over && (is_person || run.is_quiet) {
+    if is_person {
+        if is_over {
+            return Course::Ends;
+        }
+        return slices_or_rests(run);
+    }
+    if !run.is_quiet {
+        return Course::Slices;
+    }
+    if is_over {
         return Course::Ends;
     }
-    slices_or_rests(run)
+    Course::Rests
 }
 
 /// What comes next in a talk where the machine takes no key.

@@ -68,12 +68,14 @@ impl<A: Allocator> Script<A> {
     /// Adds what is said behind an answer at the console: of a script's line also where it stands.
     pub(crate) fn add_note(&mut self, text: &mut Text<A>, answer: &Answer<A>, note: &Note<A>) {
         let is_refused = self.count(answer);
-        if note.as_slice().is_empty() {
+        if self.is_unsaid(note) {
             return;
         }
         text.add(b"  ");
         if self.is_last && is_refused {
             self.add_place(text, self.line);
+            text.add(b": ");
+            text.add_clean(self.shown.as_slice());
             text.add(b": ");
         }
         text.add(note.as_slice());
@@ -83,7 +85,7 @@ impl<A: Allocator> Script<A> {
     /// Adds what is said of a line of a script that is all, apart from the answers.
     pub(crate) fn add_remark(&mut self, text: &mut Text<A>, answer: &Answer<A>, note: &Note<A>) {
         let _ = self.count(answer);
-        if note.as_slice().is_empty() {
+        if self.is_unsaid(note) {
             return;
         }
         self.add_place(text, self.line);
@@ -95,6 +97,11 @@ impl<A: Allocator> Script<A> {
         }
         text.add(note.as_slice());
         text.add(b"\n");
+    }
+
+    /// Whether nothing is said. Of a file that isn't written the end tells, where a script would have written it.
+    fn is_unsaid(&self, note: &Note<A>) -> bool {
+        note.as_slice().is_empty() || self.is_last && note.unwritten_name().is_some()
     }
 
     /// Counts an answer to one of its lines; whether it is a refusal.

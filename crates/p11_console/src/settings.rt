@@ -1,6 +1,6 @@
 // How a dialogue is held.
 ghost use Rattle.std.specs.Prelude.{◌≡◌};
-ghost use Rattle.p11_console.specs.Manner.{is_person, is_batch, trying};
+ghost use Rattle.p11_console.specs.Manner.{is_person, is_batch, tried_by};
 
 /// Where lines come from.
 #[derive(Clone, Copy, PartialEq, Eq)]
@@ -54,14 +54,14 @@ pub(crate) fn is_batch(manner: Manner) -> bool
     }
 }
 
-/// How a line is tried, of a script or another.
-#[tactic(auto, unfolding(crate::specs::Manner::trying))]
-pub(crate) fn trying(settings: Settings, is_scripted: bool) -> Trying
-    ensures { result ≡ trying settings is_scripted }
+/// How a line is tried.
+#[tactic(auto, unfolding(crate::specs::Manner::tried_by))]
+pub(crate) fn tried_by(settings: Settings) -> Trying
+    ensures { result ≡ tried_by settings }
 {
     Trying {
         is_whole: is_batch(settings.manner),
         is_saveless: settings.is_saveless,
-        is_asking: is_person(settings.manner) && !is_scripted,
+        is_asking: is_person(settings.manner),
     }
 }

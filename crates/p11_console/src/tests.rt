@@ -153,7 +153,7 @@ const ROWS: [Row; 12] = [
     // refusals aren't recorded
     Row {
         events: &[Event::Keys(b"start 1001\rstep 0\rfrobnicate\r")],
-        screen: b"p11> start 1001\n? 5 OddAddress\n  a word has an even address.\np11> step 0\n? 13 BadLine\n  \"0\" isn't a count: one to nine decimal digits, not 0: the line is step [TURNS].\np11> frobnicate\n? 13 BadLine\n  \"frobnicate\" is no word of the console; help lists those that are.\np11> ",
+        screen: b"p11> start 1001\n? 5 OddAddress\n  a word has an even address.\np11> step 0\n? 13 BadLine\n  \"0\" isn't a count: one to nine decimal digits, not 0.\np11> frobnicate\n? 13 BadLine\n  \"frobnicate\" is no word of the console; help lists those that are.\np11> ",
         record: b"",
         want: Want::Keys,
     },
@@ -189,7 +189,7 @@ const ROWS: [Row; 12] = [
             Event::Keys(b"do s\r"),
             Event::File(b"s", b"switches 1\r\nquit\n\nswitches 2"),
         ],
-        screen: b"p11> do s\nOK\n? 13 BadLine\n  s:2: quit is for a person at the console, and not for a script.\nOK\n1 line refused: s:2\np11> ",
+        screen: b"p11> do s\nOK\n? 13 BadLine\n  s:2: quit: quit is for a person at the console, and not for a script.\nOK\n1 line refused: s:2\np11> ",
         record: b"switches 1\nswitches 2\n",
         want: Want::Keys,
     },

@@ -6,7 +6,7 @@ ghost use Rattle.p11_console.specs.Own.{name_of};
 ghost use Rattle.p11_console.specs.Tries.{Tries, TriesLine, TriesRun, Acts, Saves, way_saved, run_begun, command_of, DoesLine};
 ghost use Rattle.p11_console.specs.Record.{ended};
 
-use crate::note::{Note, Topic};
+use crate::note::{Note, Subject, Topic};
 use crate::own::{Own, name_of, own_of, verb_and_rest};
 use crate::files::name_of as file_name;
 use crate::misfit::why_no_line;
@@ -257,9 +257,13 @@ pub(crate) fn try_text<A: Allocator + Copy>(
 
 /// What help is asked for.
 fn topic_of(line: &[u8]) -> Topic {
-    match word_meant(parted(verb_and_rest(line).1).0) {
-        Meant::Word(place) => Topic::new(Some(place)),
-        Meant::Several | Meant::Nothing => Topic::new(None),
+    let word = parted(verb_and_rest(line).1).0;
+    if word.is_empty() {
+        return Topic::new(Subject::All);
+    }
+    match word_meant(word) {
+        Meant::Word(place) => Topic::new(Subject::Word(place)),
+        Meant::Several | Meant::Nothing => Topic::new(Subject::Unknown),
     }
 }
 
