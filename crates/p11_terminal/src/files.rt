@@ -24,11 +24,13 @@ impl<'a, L: Ledger> Files<'a, L> {
         }
     }
 
-    /// The bytes under a name.
-    pub(crate) fn fetch(&mut self, name: &[u8]) -> Result<Vec<u8>, Trouble> {
+    /// The bytes under a name. A pack's file may be written over from then on.
+    pub(crate) fn fetch(&mut self, name: &[u8], is_pack: bool) -> Result<Vec<u8>, Trouble> {
         match self.store.fetch(self.rt.alloc(), name) {
             Ok(bytes) => {
-                self.note(name);
+                if is_pack {
+                    self.note(name);
+                }
                 Ok(bytes)
             }
             Err(error) => Err(Trouble {

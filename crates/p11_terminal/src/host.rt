@@ -159,7 +159,7 @@ impl<L: Ledger> Host<'_, L> {
     /// Gives the console the file that it wants.
     fn fetch(&mut self) {
         if let Some(name) = self.console.name() {
-            let file = self.files.fetch(name);
+            let file = self.files.fetch(name, self.console.is_pack());
             self.console.fetched(self.rt.alloc(), file);
         }
     }
