@@ -68,8 +68,8 @@ fn sum(bytes: &[u8]) -> u64 {
 /// The record of a dialogue is the dialogue: each of its lines is taken by a session on a new machine of the same size; the
 /// state behind it is that of the console's machine, where that was looked at, and so are the files that it saves. What its
 /// runs type and what its lines answer, but OK and STOP, stands in the dialogue's stream, piece by piece and in this order; of a
-/// script that is all the answers are the stream but for refusals. That the stream has nothing that no line of the record gives isn't shown
-/// by this: that the stream is the expected one is.
+/// script that is all, and whose saves write, the answers are the stream but for refusals. That the stream has nothing that no
+/// line of the record gives isn't shown by this: that the stream is the expected one is.
 pub(crate) fn gives_the_same(
     alloc: Global,
     (talk, files): (&Talk, &[StoredFile]),
@@ -79,7 +79,7 @@ pub(crate) fn gives_the_same(
     let record = came.record_text(alloc)?;
     let again = play_record(alloc, files, record.as_str())?;
     let stream = came.sight.screen.as_slice();
-    if talk.settings.manner == Manner::Batch {
+    if talk.settings.manner == Manner::Batch && !talk.settings.is_saveless {
         let accepted = without_refusals(alloc, stream)?;
         same(alloc, place, accepted.as_str(), again.answers.as_str())?;
     } else {
