@@ -26,8 +26,6 @@ mod settings;
 mod slices;
 mod stop;
 mod tapes;
-#[cfg(test)]
-mod tests;
 mod text;
 mod tries;
 mod trouble;
