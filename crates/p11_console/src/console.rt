@@ -425,7 +425,10 @@ impl<A: Allocator + Copy> Console<A> {
     {
         match way {
             Way::Putting {
-                line, image, text, ..
+                line,
+                image,
+                text,
+                ..
             } => self.end_save(alloc, line, image, text, done),
             way => way,
         }
@@ -1107,7 +1110,11 @@ fn note_unwritten<A: Allocator + Copy>(alloc: A, names: &mut Vec<Bytes<A>, A>, n
     let Some(name) = note.unwritten_name() else {
         return;
     };
-    if names.as_slice().iter().any(|other| other.as_slice() == name) {
+    if names
+        .as_slice()
+        .iter()
+        .any(|other| other.as_slice() == name)
+    {
         return;
     }
     let mut copy = Text::new(alloc);

@@ -43,7 +43,10 @@ pub(crate) fn note_of<A: Allocator>(alloc: A, fault: Fault) -> Note<A> {
 /// Why a command is refused with this fault.
 pub(crate) fn note_for<A: Allocator>(alloc: A, fault: Fault, command: &Command<A>) -> Note<A> {
     match (fault, command) {
-        (Fault::TooMany, Command::Examine { .. }) => sentence(alloc, "examine shows 1 to 512 words"),
+        (Fault::TooMany, Command::Examine { .. }) => sentence(
+            alloc,
+            "examine shows 1 to 512 words",
+        ),
         (Fault::TooMany, Command::Deposit { .. }) => sentence(
             alloc,
             "deposit writes 1 to 64 words, and one alone at 760000 and up",

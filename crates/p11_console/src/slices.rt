@@ -6,9 +6,9 @@ ghost use Rattle.p11_console.specs.Runs.{before_escape, given_keys, behind_escap
 ghost use Rattle.p11_console.specs.Steps.{way_stopped, way_behind};
 
 use crate::buffer::Buffer;
+use crate::lines::{line_end, without_return};
 use crate::note::Note;
 use crate::record::record_run;
-use crate::lines::{line_end, without_return};
 use crate::run::{MOST_TURNS, Run, escape_in, interrupt_in};
 use crate::stop::{Cause, stop_of};
 use crate::way::Way;

@@ -11,10 +11,7 @@ const MOST_PLACES: u32 = 64;
 /// What a person is told of bytes that were loaded as a tape; nothing of a tape that has a block.
 pub(crate) fn note_of_tape<A: Allocator + Copy>(alloc: A, bytes: &[u8]) -> Option<Note<A>> {
     if bytes.is_empty() {
-        return Some(sentence(
-            alloc,
-            "the file is empty: there is no block on the tape",
-        ));
+        return Some(sentence(alloc, "the file is empty: there is no block on the tape"));
     }
     if bytes.iter().all(|byte| *byte == 0) {
         return Some(sentence(
@@ -32,9 +29,7 @@ fn note_of_fault<A: Allocator + Copy>(alloc: A, bytes: &[u8], fault: TapeFault) 
     let mut text = Text::new(alloc);
     match block_behind(alloc, bytes, fault) {
         Some(at) => {
-            text.add(
-                b"a label seems to be punched in front: the first block begins at byte ",
-            );
+            text.add(b"a label seems to be punched in front: the first block begins at byte ");
             text.add_number(at as u64);
             text.add(b", and examples/without-label cuts off what is before it");
         }

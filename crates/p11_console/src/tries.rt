@@ -6,10 +6,10 @@ ghost use Rattle.p11_console.specs.Own.{name_of};
 ghost use Rattle.p11_console.specs.Tries.{Tries, TriesLine, TriesRun, Acts, Saves, way_saved, run_begun, command_of, DoesLine};
 ghost use Rattle.p11_console.specs.Record.{ended};
 
-use crate::note::{Note, Subject, Topic};
-use crate::own::{Own, name_of, own_of, verb_and_rest};
 use crate::files::file_in;
 use crate::misfit::why_no_line;
+use crate::note::{Note, Subject, Topic};
+use crate::own::{Own, name_of, own_of, verb_and_rest};
 use crate::reasons::{note_for, note_of};
 use crate::record::{record_line, recorded};
 use crate::run::{MOST_TURNS, run_of, talk_of};
