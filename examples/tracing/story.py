@@ -72,6 +72,8 @@ def origin(script, turns):
             if name in ("RTS", "RTI", "RTT"):
                 yield from popped_change(script, turn, number)
             return
+    if turns[0].snapshot.turns:
+        yield f"No trap, interrupt or jump came in the last {len(turns)} turns; -n shows more of them."
 
 
 def vector_change(script, turn, number):
