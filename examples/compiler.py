@@ -8,7 +8,9 @@ from assembler.program import Assembly, Source
 COMPILER = "pdp11-aout-gcc"
 # what a program stands on: start.s and long.s in front of it, the others behind
 FOLDER = os.path.join(os.path.dirname(os.path.realpath(__file__)), "c11")
-FLAGS = ["-std=c11", "-m40", "-mint16", "-msoft-float", "-O2", "-ffreestanding", "-fno-builtin", "-Wall", "-I", FOLDER]
+# A compiler that soak/toolchain hasn't mended loses bit 0 in a shift to the right by a variable 0, so in its tests of a bit.
+FLAGS = ["-std=c11", "-m40", "-mint16", "-msoft-float", "-O2", "-fno-bit-tests", "-ffreestanding", "-fno-builtin", "-Wall",
+         "-I", FOLDER]
 
 
 class Refused(Exception):

@@ -8,6 +8,7 @@ RIGHT = [
     ("gnu", "10$: sob r2, 10$", "77201"),
     ("gnu", "x = 4\n.word x + 2*3, x|3&1, -x, 'A, 1<<4, 10 % 3, . - x", "12 1 177774 101 20 1 1010"),
     ("gnu", ".byte 1, -1, '\\n\n.even\n.word 5", "177401 12 5"),
+    ("gnu", "cmpb r0, $' '; .byte ''', '\\n'#;\n.byte 'A,',', ';'", "120027 40 5047 26101 73"),
     ("gnu", '.asciz "A;#\\101\\\\"\n.even', "35501 40443 134"),
     ("gnu", ".macro pair a, b=7\nmov \\a, \\b\n.endm\npair r1, r2\n.set seven, 3\npair r1, -(sp); nop", "10102 10146 240"),
     ("gnu", ".macro put text\n.ascii \"\\text\"\n.endm\nput \"A;B\"; .byte 0", "35501 102"),
