@@ -49,6 +49,8 @@ WRONG = [
     ("gnu", "x: nop\n. = x - 2", "w:2:1: the location would go back, from 1002 to 776"),
     ("gnu", ".byte 256", "w:1:7: 256 doesn't fit: it may be -128 to 255"),
     ("gnu", "mov $1 r0", "w:1:8: , is missing"),
+    ("gnu", "mov #5, r0",
+     "w:1:5: a number or a name is missing; # begins a remark in GNU's syntax (--syntax macro is MACRO-11's)"),
     ("gnu", "clr r0, r1", "w:1:7: this is too much: , r1"),
     ("gnu", ".ascii \"x", "w:1:8: a text between \" and \" is missing"),
     ("gnu", ".asci \"x\"", "w:1:1: there is no directive .asci"),

@@ -86,7 +86,8 @@ def write_sentence(turn, address):
                 return f"the service of vector {turn.services[-1]:o} pushed it: {cause_of(turn)}"
             return f"{turn.text} at {turn.snapshot.program:06o} wrote {one.value:0{6 if one.size == 16 else 3}o} there"
     changed_by = "the disk" if address < INPUT_OUTPUT_PAGE else "the machine itself"
-    return f"no instruction wrote it, so {changed_by} did, while {turn.text or 'the processor'} was at {turn.snapshot.program:06o}"
+    at = f"while {turn.text or 'the processor'} was at {turn.snapshot.program:06o}"
+    return f"no instruction wrote it, so {changed_by} did, {at}"
 
 
 def end_sentence(script, last):
