@@ -92,15 +92,19 @@ class Cursor:
 
     def watched(self, turns, question):
         """Makes so many turns of this run, and asks the question behind each: the answers, one after another."""
-        size, pipes = LINES.get(question, 1), self.console.process
+        places, pipes = range(LINES.get(question, 1)), self.console.process
+        read = pipes.stdout.readline
         for first in range(0, turns, BATCH):
             some = min(BATCH, turns - first)
             pipes.stdin.write(f"step 1\n{question}\n" * some)
             pipes.stdin.flush()
             for _ in range(some):
-                self.console.answer("step 1")
+                # what was typed comes before the turn's end
+                while not (line := read()).startswith("STOP"):
+                    if not line:
+                        raise ValueError("p11 ended before it answered: step 1")
                 self.turn, self.left = self.turn + 1, self.left - 1
-                yield [pipes.stdout.readline().rstrip("\n") for _ in range(size)]
+                yield [read().rstrip("\n") for _ in places]
 
     def arrive(self):
         """Does the script's lines before the next turn."""
