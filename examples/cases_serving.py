@@ -40,6 +40,6 @@ def serve(machine):
     for line in sys.stdin:
         try:
             said = answer(machine, line)
-        except (ValueError, IndexError, TypeError) as cause:
+        except (OSError, ValueError, IndexError, TypeError) as cause:
             said = f"? {cause}"
         print(said, flush=True)

@@ -8,7 +8,9 @@ from assembler.program import Assembly, Source
 COMPILER = "pdp11-aout-gcc"
 # what a program stands on: start.s and long.s in front of it, the others behind
 FOLDER = os.path.join(os.path.dirname(os.path.realpath(__file__)), "c11")
-FLAGS = ["-std=c11", "-m40", "-mint16", "-msoft-float", "-O2", "-ffreestanding", "-fno-builtin", "-Wall", "-I", FOLDER]
+# A compiler that soak/toolchain hasn't mended loses bit 0 in a shift to the right by a variable 0, so in its tests of a bit.
+FLAGS = ["-std=c11", "-m40", "-mint16", "-msoft-float", "-O2", "-fno-bit-tests", "-ffreestanding", "-fno-builtin", "-Wall",
+         "-I", FOLDER]
 
 
 class Refused(Exception):
@@ -30,6 +32,7 @@ def assembled(paths, address, options=()):
     """The assembly of sources in C and for the assembler, one behind the other, from an address on; with more options for
     the compiler."""
     with tempfile.TemporaryDirectory() as folder:
-        assembly = Assembly([Source(path, text_of(path, folder, options), "gnu") for path in paths], address)
+        assembly = Assembly([Source(path + ", compiled" * path.endswith(".c"), text_of(path, folder, options), "gnu")
+                             for path in paths], address)
     assembly.run()
     return assembly

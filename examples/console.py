@@ -10,10 +10,14 @@ TOP = os.path.dirname(os.path.dirname(os.path.realpath(__file__)))
 
 
 def find_program():
-    """The p11 beside these examples: of the repository or of the installation, or else the one in PATH; OSError: none."""
+    """The p11 beside these examples: of the repository or of the installation, or else the one in PATH; OSError: there is none,
+    or the repository's can't be built."""
     build = os.path.join(TOP, "build")
     if os.path.isfile(build) and os.access(build, os.X_OK):
-        return subprocess.run([build, "p11_run"], stdout=subprocess.PIPE, text=True, check=True).stdout.strip()
+        built = subprocess.run([build, "p11_run"], stdout=subprocess.PIPE, text=True)
+        if built.returncode:
+            raise OSError(2, "it can't be built; --program names another", "p11")
+        return built.stdout.strip()
     installed = os.path.join(TOP, "..", "..", "..", "bin", "p11")
     found = installed if os.access(installed, os.X_OK) else shutil.which("p11")
     if found is None:

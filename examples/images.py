@@ -74,7 +74,13 @@ def pack_of(pieces, entry):
     return program if address == 0 else pack(program, entry, address)
 
 
-KINDS = {".tape": tape, ".pack": pack_of, ".p11": lambda pieces, entry: deposits(pieces, entry).encode()}
+def script(pieces, entry):
+    """A script that deposits a program, puts the stack below it, as a pack does, and starts it."""
+    first = pieces[0][0] & ~1
+    return (f"set 6 {first:o}\n" * (first > 0) + deposits(pieces, entry)).encode()
+
+
+KINDS = {".tape": tape, ".pack": pack_of, ".p11": script}
 
 
 def image(name, pieces, entry):

@@ -1,10 +1,11 @@
 """The library for C as a class: a machine that is kept, line by line (docs/LIBRARY.md)."""
 import ctypes
+import glob
 import os
 import subprocess
 import tempfile
 
-TOP = os.path.join(os.path.dirname(os.path.abspath(__file__)), "..")
+TOP = os.path.join(os.path.dirname(os.path.realpath(__file__)), "..")
 TOO_SMALL = 4
 MARKS = ("ready", "waiting", "halted")
 
@@ -20,15 +21,26 @@ class Registers(ctypes.Structure):
         (name, ctypes.c_uint16) for name in ("kernel_sp", "user_sp", "pc", "status", "status_0", "status_2", "mark")]
 
 
-def linked(folder):
-    """The name of a shared object, which is linked into a folder from the library that the repository has built."""
+def archives():
+    """The library as it is linked: the installed one, or the repository's with what it takes of the toolchain's C library."""
+    if not os.path.isdir(os.path.join(TOP, "crates")):
+        folder = os.path.join(TOP, "..", "..", "..", "lib")
+        found = glob.glob(os.path.join(folder, "libp11.a")) + glob.glob(os.path.join(folder, "*", "libp11.a"))
+        if not found:
+            raise OSError(f"no libp11.a is installed in {os.path.realpath(folder)}")
+        return found[:1]
     library = os.path.join(TOP, "crates", "p11_c", "out", "libp11_c.a")
     if not os.path.exists(library):
         raise OSError(f"{library} isn't built: make p11_c")
     page = subprocess.run(["rt", "doc"], capture_output=True, text=True, check=True).stdout.strip()
+    return [library, os.path.join(os.path.dirname(page), "c", "liblibc_c.a")]
+
+
+def linked(folder):
+    """The name of a shared object, which is linked into a folder from the library that is here."""
+    library, *more = archives()
     shared = os.path.join(folder, "libp11.so")
-    subprocess.run(["cc", "-shared", "-o", shared, "-Wl,--whole-archive", library, "-Wl,--no-whole-archive",
-                    os.path.join(os.path.dirname(page), "c", "liblibc_c.a")], check=True)
+    subprocess.run(["cc", "-shared", "-o", shared, "-Wl,--whole-archive", library, "-Wl,--no-whole-archive", *more], check=True)
     return shared
 
 

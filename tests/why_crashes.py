@@ -40,6 +40,9 @@ CRASHES = [
     ("a return address that was overwritten", "set 6 1000\n", "JSR PC,A\nHALT\nA: MOV #666,(SP)\nRTS PC", RUN,
      ["HALT at 000666", "RTS PC at 001012 went to 000666",
       "was the last to change the word at 000776, which it took as the address: MOV #666,(SP) at 001006 wrote 000666 there"]),
+    ("a stack that was never set", "", "JSR PC,A\nHALT\nA: INC R0\nRTS PC", RUN,
+     ["HALT at 000000", "RTS PC at 001010 went to 000000", "the word at 177776 (the status word), which it took as the address:",
+      "no instruction wrote it, so the machine itself did, while INC R0 was at 001006"]),
     ("a wait for nothing", "set 6 1000\n", "MOV #340,@#177776\nWAIT\nHALT", RUN,
      ["It idles: it waits behind WAIT at 001006", "No device has its interrupt enabled.", "The processor's priority is 7."]),
     ("a trap instruction without a handler", "set 6 1000\n", "EMT 17", RUN,
@@ -55,6 +58,7 @@ CRASHES = [
 # a name, options, lines and a program as above, what is said, and the exit status
 LOOP = "CLR R1\nA: INC R1\nCMP R1,#5\nBNE B\nMOV R1,@#500\nB: CMP R1,#100\nBNE A\nHALT"
 UNDONE = "INC @#500\nDEC @#500\nMOV #60000,R1\nA: NOP\nSOB R1,A\nHALT"
+COUNT = "MOV #200.,R0\nA: SOB R0,A\nHALT"
 FOUND = [
     ("who wrote", ["--wrote", "500"], "", LOOP, RUN,
      ["was the last to change the word at 000500: MOV R1,@#500 at 001012 wrote 000005 there."], 0),
@@ -71,6 +75,13 @@ FOUND = [
      ["Turn 2 was the last to change the word at 000500: DEC @#500 at 001004 wrote 000000 there."], 0),
     ("when a word was for one turn", ["--word", "500", "1"], "", UNDONE, RUN,
      ["The word at 000500 was 000001 first behind turn 1."], 0),
+    ("who pressed a key", ["--wrote", "777562"], "", COUNT, "key AB\n" + RUN,
+     ["Turn 1 was the last to change the word at 777562: no instruction wrote it, so the machine itself did"], 0),
+    ("a key that nobody takes", ["--word", "777562", "102"], "", COUNT, "key AB\n" + RUN,
+     ["The word at 777562 was never 000102."], 1),
+    ("a word that isn't there", ["--wrote", "777700"], "", COUNT, RUN, ["why: nothing answers at 777700"], 1),
+    ("a long way since the last jump", [], "", COUNT, RUN,
+     ["HALT at 001006, in turn 202.", "No trap, interrupt or jump came in the last 64 turns; -n shows more of them."], 0),
     ("a vector that was set long ago", [], "deposit 2002 0\n", "MOV #2002,@#34\nCLR R1\nA: NOP\nSOB R1,A\nTRAP",
      "continue 200000\n", ["HALT at 002002", "the trap went through vector 34 (TRAP) to 002002.",
                            "No turn of the 100000 before changed vector 34, which was 002002 000000; --wrote 34 looks"], 0),

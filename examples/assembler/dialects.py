@@ -52,8 +52,9 @@ class Gnu(Dialect):
     symbol = re.compile(r"[A-Za-z_.$~][\w.$~]*")
     number = re.compile(r"0[xX][0-9a-fA-F]+|0[bB][01]+(?![\w$])|\d+")
     brackets = ("(", ")")
-    quotes, character = {"'": 1}, re.compile(ESCAPE.pattern + "|.")
-    statement = re.compile(r"""(?:"(?:\\.|[^"\\])*"?|'(?:\\.|.)?|[^"'#/;])*""")
+    # a character may have a second quote
+    quotes, character = {"'": 1}, re.compile(f"({ESCAPE.pattern}|.)'?")
+    statement = re.compile(r"""(?:"(?:\\.|[^"\\])*"?|'(?:(?:\\.|.)'?)?|[^"'#/;])*""")
     # each operator's rank, the higher first, and what it does
     operators = {"*": (8, operator.mul), "%": (8, remainder), "<<": (8, operator.lshift), ">>": (8, operator.rshift),
                  "|": (7, operator.or_), "&": (7, operator.and_), "^": (7, operator.xor),
@@ -87,7 +88,7 @@ class Macro11(Dialect):
     symbol = re.compile(r"[A-Za-z.$][\w.$]*")
     number = re.compile(r"\d+\.?")
     brackets = ("<", ">")
-    quotes, character = {"'": 1, '"': 2}, re.compile(".")
+    quotes, character = {"'": 1, '"': 2}, re.compile("(.)")
     # the texts of .ASCII, each between two of the same character, and bytes in <..> hold any; so does what a quote begins
     statement = re.compile(r"""(?:(?:[^;"']*:)?\s*\.(?:ascii|asciz|rad50)\b\s*
                                (?:(?:<[^>]*>?|([^;\s<])(?:(?!\1).)*\1?)\s*)*)?

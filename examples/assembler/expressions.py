@@ -77,7 +77,7 @@ class Expressions:
         if match is None:
             raise scanner.fault("a character is missing")
         scanner.at = match.end()
-        return code_of(match[0])
+        return code_of(match[1])
 
     def number_or_symbol(self, scanner):
         column = scanner.column()

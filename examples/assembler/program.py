@@ -131,13 +131,19 @@ class Assembly:
             try:
                 self.statement(Scanner(text, left))
             except Fault as fault:
-                self.note(fault)
+                self.note(self.with_hint(fault, line))
             if len(self.lines.waiting) > depth and at < len(statements):
                 # a macro's lines come before the rest of this one
                 behind = statements[at][0]
                 self.lines.put_off(" " * behind + line[behind:], self.place)
                 break
         self.listing.append((self.place, begin, bytes(self.emitted), line))
+
+    def with_hint(self, fault, line):
+        """A fault of a line; where it stands at a # of MACRO-11's, it says so."""
+        if self.dialect.name == "gnu" and line[fault.column:].startswith("#"):
+            return Fault(f"{fault.text}; # begins a remark in GNU's syntax (--syntax macro is MACRO-11's)", fault.column)
+        return fault
 
     def statement(self, scanner):
         if self.conditions.take(scanner) or not self.conditions.is_on():

@@ -20,7 +20,10 @@ def place_of(word):
 
 def sentence(rule):
     """A choice as the book says it, up to its sign; ValueError if the section has no such words."""
-    with open(os.path.join(PAGES, rule.page + ".md"), encoding="utf-8") as file:
+    page = os.path.join(PAGES, rule.page + ".md")
+    if not os.path.exists(page):
+        raise ValueError("the book (docs/book.d) isn't beside examples: cases are made in p11's sources")
+    with open(page, encoding="utf-8") as file:
         sections = re.split(r"^#+ (.*)$", file.read(), flags=re.M)
     found = dict(zip(sections[1::2], sections[2::2]))
     text = " ".join(next((body for title, body in found.items() if title.endswith(rule.section)), "").split())

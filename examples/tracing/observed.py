@@ -11,10 +11,8 @@ from pdp11.machine import STACK_LIMIT, STATUS_WORD, Machine, TimeOut  # noqa: E4
 from pdp11.numbers import BYTE, WORD, byte_of  # noqa: E402
 from pdp11.translation import Abort  # noqa: E402
 
-from .replay import word_of  # noqa: E402
+from .replay import word_at  # noqa: E402
 
-# reading it takes the key that stands there
-RECEIVER_BUFFER = 0o777562
 INTERRUPTS = (0o100, 0o220, 0o60, 0o64)
 
 
@@ -47,9 +45,7 @@ class Snapshot:
 
     def examine(self, address):
         """The word at a bus address, or None where nothing answers."""
-        if address == RECEIVER_BUFFER:
-            return int(self.console.ask("device")[1].split()[2], 8)
-        return word_of(self.console.ask(f"examine {address:o}"))
+        return word_at(self.console, address)
 
     def registers(self):
         return (*self.general, self.kernel_stack, self.user_stack, self.program, self.status)

@@ -1,6 +1,7 @@
 """What a turn did, and why the machine stopped, in sentences."""
 from .observed import status
 
+INPUT_OUTPUT_PAGE = 0o760000
 REGISTERS = {0o777400: "RKDS", 0o777402: "RKER", 0o777404: "RKCS", 0o777406: "RKWC", 0o777410: "RKBA", 0o777412: "RKDA",
              0o777416: "RKDB", 0o777546: "LKS", 0o777560: "RCSR", 0o777562: "RBUF", 0o777564: "XCSR", 0o777566: "XBUF",
              0o777570: "the switches", 0o777572: "SR0", 0o777576: "SR2", 0o777774: "the stack limit register",
@@ -84,7 +85,9 @@ def write_sentence(turn, address):
             if turn.services:
                 return f"the service of vector {turn.services[-1]:o} pushed it: {cause_of(turn)}"
             return f"{turn.text} at {turn.snapshot.program:06o} wrote {one.value:0{6 if one.size == 16 else 3}o} there"
-    return f"no instruction wrote it, so the disk did, while {turn.text or 'the processor'} was at {turn.snapshot.program:06o}"
+    changed_by = "the disk" if address < INPUT_OUTPUT_PAGE else "the machine itself"
+    at = f"while {turn.text or 'the processor'} was at {turn.snapshot.program:06o}"
+    return f"no instruction wrote it, so {changed_by} did, {at}"
 
 
 def end_sentence(script, last):
@@ -111,7 +114,7 @@ def loop_sentences(turns):
     read = {}
     for turn in turns:
         for one in turn.references:
-            if one.what == "read" and one.place is not None and one.place >= 0o760000:
+            if one.what == "read" and one.place is not None and one.place >= INPUT_OUTPUT_PAGE:
                 read.setdefault(one.place, set()).add(one.value)
     for place, values in sorted(read.items()):
         shown = " or ".join(f"{value:06o}" for value in sorted(value for value in values if value is not None))

@@ -4,12 +4,27 @@ from console import LINES, Console
 RUNS = ("step", "continue")
 # how many turns are made with one write: few enough for a pipe to hold the lines
 BATCH = 1000
+# `examine` takes the key that stands there
+RECEIVER_BUFFER = 0o777562
 
 
 def word_of(answer):
     """The word that the answer to `examine` shows, or None if nothing answers there."""
     words = answer[0].split()
     return int(words[2], 8) if words[0] == "EXAM" else None
+
+
+def question_of(address):
+    """The line that shows the word at a bus address and changes nothing, and what reads the word off its answer."""
+    if address == RECEIVER_BUFFER:
+        return "device", lambda answer: int(answer[1].split()[2], 8)
+    return f"examine {address:o}", word_of
+
+
+def word_at(console, address):
+    """The word at a bus address, or None where nothing answers."""
+    line, read = question_of(address)
+    return read(console.ask(line))
 
 
 class Script:
@@ -77,15 +92,19 @@ class Cursor:
 
     def watched(self, turns, question):
         """Makes so many turns of this run, and asks the question behind each: the answers, one after another."""
-        size, pipes = LINES.get(question, 1), self.console.process
+        places, pipes = range(LINES.get(question, 1)), self.console.process
+        read = pipes.stdout.readline
         for first in range(0, turns, BATCH):
             some = min(BATCH, turns - first)
             pipes.stdin.write(f"step 1\n{question}\n" * some)
             pipes.stdin.flush()
             for _ in range(some):
-                self.console.answer("step 1")
+                # what was typed comes before the turn's end
+                while not (line := read()).startswith("STOP"):
+                    if not line:
+                        raise ValueError("p11 ended before it answered: step 1")
                 self.turn, self.left = self.turn + 1, self.left - 1
-                yield [pipes.stdout.readline().rstrip("\n") for _ in range(size)]
+                yield [read().rstrip("\n") for _ in places]
 
     def arrive(self):
         """Does the script's lines before the next turn."""
@@ -104,7 +123,7 @@ class Cursor:
 
     def word(self, address):
         """The word at a bus address, or None where nothing answers."""
-        return word_of(self.console.ask(f"examine {address:o}"))
+        return word_at(self.console, address)
 
     def close(self):
         """Ends the session, behind the answers that nobody has read."""

@@ -1,7 +1,7 @@
 """Which turn it was: when a word changed last, when it got a value first, when PC was first at an address.
 
 Each turn is looked at, so that the answers are exact."""
-from .replay import Cursor, word_of
+from .replay import Cursor, question_of
 
 # how many turns are looked at in the last stretch of a run; each stretch before it has twice as many
 STRETCH = 20000
@@ -53,7 +53,16 @@ def last_change(script, question, high, low=0, read=lambda answer: answer):
 
 def changed_last(script, address, high, low=0):
     """The last turn from LOW to HIGH that changed the word at a bus address, counted from 0, or None."""
-    return last_change(script, f"examine {address:o}", high, low)
+    question, read = question_of(address)
+    return last_change(script, question, high, low, read)
+
+
+def has_word(script, address):
+    """Whether something answers at a bus address."""
+    cursor = Cursor(script)
+    found = cursor.word(address) is not None
+    cursor.close()
+    return found
 
 
 def line_that_changed(script, turn, address):
@@ -76,7 +85,7 @@ def first_with(script, question, read, wanted):
 
 def had_first(script, address, value):
     """The turn before which the word at a bus address was a value first, or None."""
-    return first_with(script, f"examine {address:o}", word_of, value)
+    return first_with(script, *question_of(address), value)
 
 
 def was_at_first(script, address):

@@ -1,6 +1,6 @@
 """Why the machine stopped, and what its last turns were, as lines of text."""
 from .observed import status
-from .reasons import JUMPS, end_sentence, idle_sentences, loop_sentences, mode_of, service_sentence, write_sentence
+from .reasons import JUMPS, end_sentence, idle_sentences, loop_sentences, mode_of, service_sentence, where, write_sentence
 from .searches import changed_last, last_change, line_that_changed
 from .turns import turn_at, turns_of
 
@@ -72,6 +72,8 @@ def origin(script, turns):
             if name in ("RTS", "RTI", "RTT"):
                 yield from popped_change(script, turn, number)
             return
+    if turns[0].snapshot.turns:
+        yield f"No trap, interrupt or jump came in the last {len(turns)} turns; -n shows more of them."
 
 
 def vector_change(script, turn, number):
@@ -89,7 +91,7 @@ def popped_change(script, turn, number):
     """Who changed the word that RTS PC, RTI or RTT took as the address."""
     for one in turn.references[1:]:
         if one.what == "read" and one.value == turn.program:
-            what = f"the word at {one.virtual:06o}, which it took as the address"
+            what = f"the word at {where(one)}, which it took as the address"
             yield changed(script, what, one.place, number - 1, max(0, number - 1 - REACH))[0]
             return
 
