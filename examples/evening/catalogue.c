@@ -173,7 +173,7 @@ static int16 changed(const char *name) {
     if (number < 0) return number;
     entry = entry_at(number);
     if (!entry) return DISK_FAILS;
-    return (int16)(entry->kind == FILE_PROGRAM ? IS_PROGRAM : number);
+    return (int16)(entry->kind == FILE_PROGRAM || entry->kind == FILE_BLOCKS ? OF_PACK : number);
 }
 
 /* The entry for a name: the one that it has, or else one that is free; or a fault. */
@@ -255,7 +255,7 @@ const char *why(int16 fault) {
     case TOO_MANY: return "The catalogue is full: delete a file";
     case TOO_LONG: return "The file is too long";
     case PROTECTED: return "The pack is protected: mount it with rw";
-    case IS_PROGRAM: return "That is a program of the pack: take another name";
+    case OF_PACK: return "That belongs to the pack: take another name";
     default: return "The disk fails";
     }
 }
@@ -270,6 +270,7 @@ static const char *kind_name(uint16 kind) {
     switch (kind) {
     case FILE_PROGRAM: return "program";
     case FILE_TEXT: return "text";
+    case FILE_BLOCKS: return "blocks of a program";
     default: return "data";
     }
 }

@@ -1,6 +1,6 @@
 /* The files of the pack, by name. A file is one run of blocks of 512 bytes. A file that is written takes its place only
  * once all its blocks are on the pack, by one write of one block of the catalogue: whenever the machine stops, the file is
- * the old one or the new one. A program of the pack is neither written nor deleted.
+ * the old one or the new one. What belongs to the pack, its programs and the blocks of one, is neither written nor deleted.
  *
  * A call answers 0 (or what it says), or one of the faults below, which is less than 0; why() says it in words. */
 #ifndef CATALOGUE_H
@@ -8,8 +8,8 @@
 
 #include "small.h"
 
-enum { FILE_PROGRAM = 1, FILE_TEXT, FILE_DATA };
-enum { NO_FILE = -1, BAD_NAME = -2, NO_ROOM = -3, TOO_MANY = -4, TOO_LONG = -5, PROTECTED = -6, DISK_FAILS = -7, IS_PROGRAM = -8 };
+enum { FILE_PROGRAM = 1, FILE_TEXT, FILE_DATA, FILE_BLOCKS };
+enum { NO_FILE = -1, BAD_NAME = -2, NO_ROOM = -3, TOO_MANY = -4, TOO_LONG = -5, PROTECTED = -6, DISK_FAILS = -7, OF_PACK = -8 };
 
 #define BLOCK 512
 #define NAME 12
