@@ -189,9 +189,13 @@ static int16 entry_for(const char *name) {
 }
 
 int16 begin_file(struct file *made, const char *name, uint16 kind, uint16 blocks) {
+    const struct file *entry;
     int16 fault = named(name, made->name);
     if (!fault) fault = entry_for(name);
     if (fault < 0) return fault;
+    entry = entry_at(fault);
+    if (!entry) return DISK_FAILS;
+    if (entry->name[0] && entry->kind != kind) return OTHER_KIND;
     fault = mark_used();
     if (fault) return fault;
     fill(made->title, 0, TITLE);
@@ -255,6 +259,7 @@ const char *why(int16 fault) {
     case TOO_MANY: return "The catalogue is full: delete a file";
     case TOO_LONG: return "The file is too long";
     case PROTECTED: return "The pack is protected: mount it with rw";
+    case OTHER_KIND: return "A file of that name is of another kind: take another name";
     case OF_PACK: return "That belongs to the pack: take another name";
     default: return "The disk fails";
     }
@@ -271,6 +276,8 @@ static const char *kind_name(uint16 kind) {
     case FILE_PROGRAM: return "program";
     case FILE_TEXT: return "text";
     case FILE_BLOCKS: return "blocks of a program";
+    case FILE_IMAGE: return "image of a Lisp";
+    case FILE_GAME: return "saved game";
     default: return "data";
     }
 }
