@@ -2,6 +2,7 @@
 # pack has the texts of the folder forth/ too:
 #   examples/asm --at 0 -o examples/forth.pack examples/forth.s
 #   examples/forth-pack examples/forth.pack
+# The pack of examples/evening has it as a program of its menu, all but its first sector, and the texts as a file.
 #
 # Direct threading. A thread is a list of addresses of code; R4 points behind the one that runs, and NEXT is JMP @(R4)+.
 # A colon definition begins with JSR R4,@#docol, which pushes the caller's R4 and makes R4 its body. So SP is the return
@@ -32,6 +33,7 @@
         .set    stop, 0160000           # where its data stack begins
         .set    image, 32               # sectors that this program takes; block 0 is behind them
         .set    room, 2400              # blocks of a drive
+        .set    drives, 8
         .set    none, 077777            # no block
 
 # A task's own variables, as offsets from R3.
@@ -45,16 +47,8 @@
 
         .globl  start
 start:  br      boot
-        . = start + 4                   # each trap has its number in the condition codes of its new status word
-        .word   trap, 0340, trap, 0341, trap, 0342, trap, 0343, trap, 0344, trap, 0345, trap, 0346
-        . = start + 060
-        .word   key_in, 0200, key_out, 0200
-        . = start + 0100
-        .word   tick, 0300
-        . = start + 0250
-        .word   trap, 0347
 
-# The first sector reads the others behind itself. The return stack takes this place afterwards.
+# The first sector reads the others behind itself. The return stack takes this place afterwards, and that of the vectors.
         . = start + 0400
 boot:   mov     $rkda, r0
         mov     $1, (r0)                # from sector 1
@@ -65,9 +59,30 @@ boot:   mov     $rkda, r0
         bpl     1b
         tst     (r0)
         bmi     2f
-        jmp     cold
+        jmp     vectors
 2:      halt                            # the pack can't be read: RKER says why
         br      boot
+
+# A menu that has read all from here on to its place begins here. Its pack says how many sectors block 0 lies behind sector
+# 32, and how many blocks there are.
+        . = start + 01000
+menu:   br      1f
+        .word   0, room
+1:      mov     menu + 2, behind0
+        mov     menu + 4, room0
+vectors:mov     $1f, r0
+2:      mov     (r0)+, r1
+        mov     (r0)+, (r1)+
+        mov     (r0)+, (r1)
+        cmp     r0, $3f
+        bne     2b
+        br      cold
+1:      .word   0, 3, 3                 # BPT: who goes to 0 finds no code
+        .word   4, trap, 0340, 010, trap, 0341, 014, trap, 0342, 020, trap, 0343, 024, trap, 0344, 030, trap, 0345
+        .word   034, trap, 0346         # each trap has its number in the condition codes of its new status word
+        .word   0250, trap, 0347
+        .word   060, key_in, 0200, 064, key_out, 0200, 0100, tick, 0300
+3:
 
 # How much memory there is, the pages, and the first task.
         . = start + rtop
@@ -288,6 +303,8 @@ main:   .word   main, 0, 1, stop, rtop, 10, main + u_end
         . = main + u_end
 memory: .word   0                       # where memory ends
 top:    .word   0                       # where definitions may end
+behind0:.word   0                       # on drive 0: how many sectors block 0 lies behind its place, and how many blocks there are
+room0:  .word   room
 awake:  .word   1                       # tasks that are awake, and those of them that waited since something came
 quiet:  .word   0
 broke:  .word   0                       # Ctrl-C came
@@ -1009,12 +1026,13 @@ empty:  mov     u_r0(r3), sp;     next
 2:      .word   exit
         colon   arrow, "-->", now;        .word   lit, 1, blk_, plusst, lit, 0, inat_, store, exit
 
-# Blocks: two sectors each, from sector 32 of a drive on; 2,400 of them on a drive.
+# Blocks: two sectors each, from sector 32 of a drive on; 2,400 of them on a drive, or fewer on the menu's.
 disk:   mov     (r5)+, r2               # ( address block function -- errors )
         mov     (r5)+, r1;        clr     r0;               div     $room, r0
         ash     $13, r0                 # the drive
-        mov     r0, -(sp);        asl     r1;               add     $image, r1
-        clr     r0;               div     $12, r0
+        asl     r1;               mov     r0, -(sp);        bne     4f
+        add     behind0, r1
+4:      add     $image, r1;       clr     r0;               div     $12, r0
         ash     $4, r0                  # cylinder and surface
         add     r1, r0;           add     (sp)+, r0;        mov     $rkcs, r1
 1:      tstb    (r1);             bpl     1b;               mov     r0, *$rkda
@@ -1050,8 +1068,9 @@ spare:  jsr     r4, *$docol             # ( -- address ), of a buffer that was m
         .word   lit, victim, at, twop, lit, 6, and, dup, lit, victim, store, lit, bufs, plus, lit, spot, store
         .word   tidy, lit, none, lit, spot, at, store, place, exit
 known:  jsr     r4, *$docol             # ( block -- block )
-        .word   dup, lit, 19200, uless, zbran, 1f, exit
-1:      fails   "no such block"
+        .word   dup, lit, room, uless, zbran, 1f, dup, lit, room0, at, uless, zbran, 2f, exit
+1:      .word   dup, lit, room * drives, uless, zbran, 2f, exit
+2:      fails   "no such block"
         colon   buffer, "BUFFER"
         .word   known, slot, not, zbran, 1f, spare, swap, lit, spot, at, store
 1:      .word   exit
@@ -1120,7 +1139,16 @@ hello:  say     "\r\nFORTH-83 for the PDP-11/40: "
         .word   flush, halt_, abort
 halt_:  cmp     outhead, outtail        # once all is typed
         beq     1f;               jsr     pc, relax;        br      halt_
-1:      tstb    *$xcsr;           bpl     1b;               halt
+1:      tstb    *$xcsr;           bpl     1b;               tst     behind0
+        bne     2f;               halt
         next
+2:      mov     $0340, *$ps             # back to the menu, which is in the pack's first sectors
+        clr     *$rcsr;           clr     *$xcsr;           clr     *$lks
+        clr     *$sr0;            mov     $rkda, r0;        clr     (r0)
+        clr     -(r0);            mov     $-256, -(r0);     mov     $5, -(r0)
+3:      tstb    (r0);             bpl     3b;               tst     (r0)
+        bmi     4f;               clr     pc
+4:      halt                            # the pack can't be read
+        br      2b
         .set    last, link
         . = start + 040000

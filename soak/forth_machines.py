@@ -24,7 +24,7 @@ class P11:
     def __init__(self, program, pack, access="rw", settings=()):
         self.console = subprocess.Popen([program, *settings, "-"], stdin=subprocess.PIPE, stdout=subprocess.PIPE,
                                         text=True)
-        self.typed, self.stop = "", ""
+        self.typed, self.stop, self.turns = "", "", 0
         for line in (f"mount 0 {pack} {access}", LOADER, "start 1000"):
             self.ask(line)
 
@@ -39,7 +39,8 @@ class P11:
         return answer
 
     def run(self, turns):
-        self.stop = self.ask(f"continue {turns}").split()[1]
+        _, self.stop, made, _ = self.ask(f"continue {turns}").split()
+        self.turns += int(made)
 
     def type(self, text):
         """Presses keys, as many as wait at once, and lets the machine take them where there is no room."""

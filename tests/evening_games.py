@@ -15,6 +15,10 @@ DIALOGUES = [
         ("(define fact nil)", "fact"),
         ('(load "mine")', "loaded"),
         ("(fact 6)", "720")], "(bye)\r"),
+    ("FORTH", " ok\r\n", [
+        (": SQUARE DUP * ; 12 SQUARE .", "144  ok"),
+        ("0 60 BLOCK C! UPDATE FLUSH", " ok"),
+        ("TUTORIAL", "Block 10")], "BYE\r"),
     ("LONGPOUND", "\n? ", [
         ("look", "The canal basin of Lower Ketting."),
         ("board the barge. down. open drawer", "In it lies a waybill."),

@@ -525,13 +525,18 @@ static void kill(void) {
 }
 
 static void help(void) {
-    type_text("PRINT INPUT LET IF THEN ELSE FOR TO STEP NEXT GOTO GOSUB RETURN ON DIM DATA READ\n"
-              "RESTORE REM END STOP RANDOMIZE CLS; AND OR NOT MOD; ABS SGN RND LEN ASC VAL FRE\n"
-              "LEFT$ RIGHT$ MID$ CHR$ STR$ INKEY$ TAB\n"
-              "A line that begins with a number is kept: 10 PRINT \"HELLO\". The number alone takes\n"
-              "it out. RUN starts the program, LIST shows it, NEW empties it, Ctrl-C stops it.\n"
-              "SAVE \"NAME\" puts it on the pack, LOAD \"NAME\" gets it, CAT shows the files, KILL\n"
-              "\"NAME\" takes one away, and BYE goes to the menu.\n");
+    type_text("Type these lines, with RETURN behind each, and RUN to start them:\n"
+              "  10 INPUT \"YOUR NAME\";N$\n"
+              "  20 FOR I=1 TO 3\n"
+              "  30 PRINT I;\"HELLO, \";N$\n"
+              "  40 NEXT I\n"
+              "  50 PRINT \"TWO DICE:\";RND(6);RND(6)\n"
+              "LIST shows the program, the number of a line alone takes the line out, NEW\n"
+              "empties it, Ctrl-C stops it. SAVE \"NAME\" puts it on the pack, LOAD \"NAME\" gets\n"
+              "it, CAT shows the files, KILL \"NAME\" takes one away; BYE goes to the menu.\n"
+              "The words: PRINT INPUT LET IF THEN ELSE FOR TO STEP NEXT GOTO GOSUB RETURN ON\n"
+              "DIM DATA READ RESTORE REM END STOP RANDOMIZE CLS; AND OR NOT MOD; ABS SGN RND\n"
+              "LEN ASC VAL FRE LEFT$ RIGHT$ MID$ CHR$ STR$ INKEY$ TAB. Numbers are whole.\n");
 }
 
 static void leave_basic(void) {

@@ -68,7 +68,7 @@ int16 name(void) {
     found = (int16)((*at++ - 'A') * 11);
     if (*at >= '0' && *at <= '9') found = (int16)(found + 1 + *at++ - '0');
     if (is_letter(*at) || (*at >= '0' && *at <= '9'))
-        fail("BASIC doesn't know this word", "A variable is one letter, or a letter and a digit: A or A1; HELP lists the words");
+        fail("BASIC doesn't know this word", "A variable is a letter, or a letter and a digit, as A1; HELP lists the words");
     return found;
 }
 

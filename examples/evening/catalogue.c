@@ -173,7 +173,7 @@ static int16 changed(const char *name) {
     if (number < 0) return number;
     entry = entry_at(number);
     if (!entry) return DISK_FAILS;
-    return (int16)(entry->kind == FILE_PROGRAM ? IS_PROGRAM : number);
+    return (int16)(entry->kind == FILE_PROGRAM || entry->kind == FILE_BLOCKS ? OF_PACK : number);
 }
 
 /* The entry for a name: the one that it has, or else one that is free; or a fault. */
@@ -189,9 +189,13 @@ static int16 entry_for(const char *name) {
 }
 
 int16 begin_file(struct file *made, const char *name, uint16 kind, uint16 blocks) {
+    const struct file *entry;
     int16 fault = named(name, made->name);
     if (!fault) fault = entry_for(name);
     if (fault < 0) return fault;
+    entry = entry_at(fault);
+    if (!entry) return DISK_FAILS;
+    if (entry->name[0] && entry->kind != kind) return OTHER_KIND;
     fault = mark_used();
     if (fault) return fault;
     fill(made->title, 0, TITLE);
@@ -255,7 +259,8 @@ const char *why(int16 fault) {
     case TOO_MANY: return "The catalogue is full: delete a file";
     case TOO_LONG: return "The file is too long";
     case PROTECTED: return "The pack is protected: mount it with rw";
-    case IS_PROGRAM: return "That is a program of the pack: take another name";
+    case OTHER_KIND: return "A file of that name is of another kind: take another name";
+    case OF_PACK: return "That belongs to the pack: take another name";
     default: return "The disk fails";
     }
 }
@@ -270,6 +275,9 @@ static const char *kind_name(uint16 kind) {
     switch (kind) {
     case FILE_PROGRAM: return "program";
     case FILE_TEXT: return "text";
+    case FILE_BLOCKS: return "blocks of a program";
+    case FILE_IMAGE: return "image of a Lisp";
+    case FILE_GAME: return "saved game";
     default: return "data";
     }
 }

@@ -1,6 +1,6 @@
 /* The files of the pack, by name. A file is one run of blocks of 512 bytes. A file that is written takes its place only
  * once all its blocks are on the pack, by one write of one block of the catalogue: whenever the machine stops, the file is
- * the old one or the new one. A program of the pack is neither written nor deleted.
+ * the old one or the new one. What belongs to the pack, its programs and the blocks of one, is neither written nor deleted.
  *
  * A call answers 0 (or what it says), or one of the faults below, which is less than 0; why() says it in words. */
 #ifndef CATALOGUE_H
@@ -8,8 +8,8 @@
 
 #include "small.h"
 
-enum { FILE_PROGRAM = 1, FILE_TEXT, FILE_DATA };
-enum { NO_FILE = -1, BAD_NAME = -2, NO_ROOM = -3, TOO_MANY = -4, TOO_LONG = -5, PROTECTED = -6, DISK_FAILS = -7, IS_PROGRAM = -8 };
+enum { FILE_PROGRAM = 1, FILE_TEXT, FILE_DATA, FILE_BLOCKS, FILE_IMAGE, FILE_GAME };
+enum { NO_FILE = -1, BAD_NAME = -2, NO_ROOM = -3, TOO_MANY = -4, TOO_LONG = -5, PROTECTED = -6, DISK_FAILS = -7, OF_PACK = -8, OTHER_KIND = -9 };
 
 #define BLOCK 512
 #define NAME 12
@@ -40,7 +40,7 @@ int16 read_part(const struct file *file, uint16 block, void *to);
 /* Reads a file whole; its length. TOO_LONG: it has more than ROOM bytes, and nothing was read. */
 int16 read_file(const char *name, void *to, uint16 room, uint16 *length);
 
-/* Writes a file whole, in place of the one of that name. */
+/* Writes a file whole, in place of the one of that name, which has to be of the same kind. */
 int16 write_file(const char *name, uint16 kind, const void *from, uint16 length);
 
 /* Writes a file by blocks: room for so many, each of them in any order, and the file is there by end_file, with LAST bytes

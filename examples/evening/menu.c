@@ -24,7 +24,7 @@ static void show(void) {
         put('\n');
     }
     if (entry < 0) text("The catalogue can't be read.\n");
-    text("\nType a number or a name. FILES lists the files, DELETE NAME takes one away, MENU\nshows this again.\n");
+    text("\nType a number or a name. FILES lists the files, DELETE NAME takes one away,\nMENU shows this again.\n");
 }
 
 /* The program of a number of the list; 0 if there is none. */

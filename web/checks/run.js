@@ -6,6 +6,7 @@ const fs = require('fs'), os = require('os'), path = require('path');
 const { open } = require('./browser.js');
 const { serve } = require('./serve.js');
 const { evening } = require('./evening.js');
+const { boots } = require('./boots.js');
 const { words } = require('./words.js');
 const { badFiles, trap, lacking } = require('./bad.js');
 const { looks, names, keyboard } = require('./looks.js');
@@ -28,7 +29,7 @@ async function checked(command, { made, p11, terminal, examples, casesFile }) {
   };
   try {
     await run(plays, await run(evening));
-    for (const next of [words, badFiles, keyboard, names, looks, pace, sizes, copies, link, lacking]) await run(next);
+    for (const next of [boots, words, badFiles, keyboard, names, looks, pace, sizes, copies, link, lacking]) await run(next);
     const told = await run(cases);
     await run(single);
     await page.goTo(url);

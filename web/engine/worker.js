@@ -59,7 +59,8 @@ class Engine {
   }
 
   go() {
-    if (this.isLost || (!this.session.run && !this.playOn())) return;
+    // there is no session while another one opens
+    if (this.isLost || !this.session || (!this.session.run && !this.playOn())) return;
     if (!this.session.run) { this.wake(); return; }
     const now = performance.now();
     this.tick(now);

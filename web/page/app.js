@@ -111,9 +111,9 @@ class App {
   }
 
   showBoots() {
-    $('#boots').replaceChildren(...this.boots.map(({ name, title, about }) => {
+    $('#boots').replaceChildren(...this.boots.map(({ name, title, about, first }) => {
       const button = document.createElement('button');
-      Object.assign(button, { textContent: title, title: about });
+      Object.assign(button, { textContent: title, title: `${about} Type first: ${first}` });
       button.dataset.boot = name;
       button.onclick = () => this.sessions.boot(name);
       return button;

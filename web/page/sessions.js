@@ -35,12 +35,14 @@ class Sessions {
       app.note(`Nothing of the name "${name}" ships with the page; there are ${app.boots.map((it) => it.name).join(', ')}.`);
       return;
     }
-    await this.open(entry.memory ?? 28);
+    await this.open(28);
     app.store.begin({ kwords: this.kwords });
     app.say(`p11> do ${entry.script}\n`);
-    for (const file of entry.files ?? []) await this.put(file, await Shelf.bytes(file));
-    await app.console.play(await Shelf.text(entry.script), true);
-    app.note(entry.about);
+    for (const file of entry.files) await this.put(file, await Shelf.bytes(file));
+    const script = await Shelf.text(entry.script);
+    // the terminal makes the turns of a last line `continue`
+    await app.console.play(entry.talk ? script.replace(/\ncontinue \d+\n$/, '\n') : script, true);
+    app.note(`${entry.about} Type first: ${entry.first}`);
     await app.drives.show();
     if (entry.talk) await app.console.talk(); else app.console.open();
     app.focus();
@@ -56,7 +58,7 @@ class Sessions {
   async find(name) {
     const { app } = this, there = await app.link.ask('file', { name });
     if (there) return there;
-    const ships = app.boots.flatMap((it) => [it.script, ...(it.files ?? [])]);
+    const ships = app.boots.flatMap((it) => [it.script, ...it.files]);
     if (!ships.includes(name)) return null;
     const bytes = await Shelf.bytes(name);
     await this.put(name, bytes);

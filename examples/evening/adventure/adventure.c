@@ -11,7 +11,8 @@ static char line[LINE + 1];
 static int16 last_verb, last_one, last_other, is_over;
 
 /* What the parser passes over. */
-static const char *const passed[] = {"the", "a", "an", "my", "to", "with", "at", "on", "onto", "into", "of", "from", "for", "some", 0};
+static const char *const passed[] = {"the", "a", "an", "my", "to", "with", "at", "on", "onto", "into", "of", "from", "for",
+                                     "some", 0};
 
 static int16 is_word(const char *word, const char *other) {
     while (*word && *word == *other) {
@@ -111,7 +112,8 @@ static void command(const char **at) {
         return;
     }
     while (next_word(at, word)) {
-        int16 thing = is_word(word, "it") ? last_one : is_word(word, "all") || is_word(word, "everything") ? ALL : thing_of(word, verb);
+        int16 is_all = is_word(word, "all") || is_word(word, "everything");
+        int16 thing = is_word(word, "it") ? last_one : is_all ? ALL : thing_of(word, verb);
         int16 direction = verb_of(word);
         if (verb == GO && direction && direction <= GO_LAST) {
             verb = direction;

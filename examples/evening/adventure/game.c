@@ -195,7 +195,8 @@ static int16 is_for(const struct rule *rule, int16 verb, int16 one, int16 other)
     return (rule->one == one && rule->other == other) || (rule->one == other && rule->other == one);
 }
 
-/* Takes the first rule that is for a command and whose conditions hold: whether there is one. A new room is looked at in the end. */
+/* Takes the first rule that is for a command and whose conditions hold: whether there is one. A new room is looked at in the
+ * end. */
 static int16 by_rule(int16 verb, int16 one, int16 other) {
     int16 at, room = now.room;
     for (at = 0; at < (int16)world.rules; at++) {

@@ -22,17 +22,9 @@ static void told(int16 fault, const char *done) {
 
 void save_game(void) {
     char name[NAME + 2];
-    struct file old;
-    struct state before;
-    uint16 length;
     if (!asked(name)) return;
-    /* only a saved game is written over */
-    if (!find_file(name, &old) && (read_file(name, &before, sizeof before, &length) || before.mark != MARK)) {
-        text("A file of that name is something else: take another name.\n");
-        return;
-    }
     now.mark = MARK;
-    told(write_file(name, FILE_DATA, &now, sizeof now), "Saved. RESTORE and this name take it up again.");
+    told(write_file(name, FILE_GAME, &now, sizeof now), "Saved. RESTORE and this name take it up again.");
 }
 
 int16 restore_game(void) {

@@ -1,6 +1,6 @@
 /* The evaluator is a loop over one stack of values: what still has to be done with a value lies there as a frame, a few
- * values with the number of the step that takes them up on top. So a function that calls itself last needs no room, the collector sees
- * everything, and Ctrl-C finds it anywhere. */
+ * values with the number of the step that takes them up on top. So a function that calls itself last needs no room, the
+ * collector sees everything, and Ctrl-C finds it anywhere. */
 #include "evaluator.h"
 
 #include "functions.h"

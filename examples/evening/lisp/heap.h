@@ -20,7 +20,7 @@ enum kind {
     SPECIAL    /* a place in the table of special forms */
 };
 
-#define CELLS 4500
+#define CELLS 4470
 #define DEEPEST 2000
 #define SPARE 100
 #define NIL 0

@@ -87,7 +87,7 @@ value do_save(value given) {
     image.functions = functions_sum();
     copy(image.symbols, symbols, sizeof symbols);
     size = size_of(image.cells);
-    check(begin_file(&file, name, FILE_DATA, (uint16)((size + BLOCK - 1) / BLOCK)));
+    check(begin_file(&file, name, FILE_IMAGE, (uint16)((size + BLOCK - 1) / BLOCK)));
     if (wrong) return NIL;
     next_block = at = 0;
     write_bytes(&image, sizeof image);

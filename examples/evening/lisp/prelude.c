@@ -17,7 +17,8 @@ static const char source[] =
     "(define (range a b) (let next ((b b) (done nil)) (if (< b a) done (next (- b 1) (cons b done)))))"
     "(define (abs n) (if (< n 0) (- n) n))"
     "(define (min a b) (if (< a b) a b))"
-    "(define (max a b) (if (> a b) a b))";
+    "(define (max a b) (if (> a b) a b))"
+    "(define (help) (type \"LISP.TXT\"))";
 
 static const char *at;
 
