@@ -10,10 +10,6 @@ use std::alloc::{AllocError, Global};
 #[derive(Drop)]
 pub(crate) struct Launch<'a> {
     pub(crate) config: Config,
-    /// Thousands (1,024) of words of memory.
-    pub(crate) memory: u32,
-    /// Decoded words that are kept.
-    pub(crate) lines: u32,
     /// Turns of a slice.
     pub(crate) slice: u32,
     /// The record's file.
@@ -207,8 +203,6 @@ pub(crate) fn settings<'a>(alloc: Global, words: &'a [String]) -> Result<Launch<
     };
     Ok(Launch {
         config,
-        memory,
-        lines,
         slice,
         record: matches.get_str("record"),
         history: matches.get_str("history"),

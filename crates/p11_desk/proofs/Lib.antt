@@ -1,0 +1,4 @@
+pub mod DeskLemmas
+pub mod KeyboardLemmas
+pub mod ScriptLemmas
+pub mod Writing
