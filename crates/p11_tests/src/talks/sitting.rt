@@ -1,4 +1,6 @@
 // Who sits at a console: gives it what comes, takes what it shows, and does what it wants.
+ghost use Rattle.std.specs.Prelude.{◌≤◌, length};
+
 use crate::data::{Wrong, bad_line, text_of};
 use crate::talks::came::{Came, Sight};
 use crate::talks::hoard::Hoard;
@@ -332,6 +334,8 @@ impl<'a, L: Ledger, A: Allocator + Copy> Sitting<'a, L, A> {
 }
 
 /// At most so many of the first bytes.
-fn front(bytes: &[u8], most: usize) -> &[u8] {
+fn front(bytes: &[u8], most: usize) -> &[u8]
+    ensures { length result.now ≤ length bytes.entry.now }
+{
     &bytes[..bytes.len().min(most)]
 }
