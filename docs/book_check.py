@@ -6,12 +6,13 @@ import html.parser
 import os
 import re
 
+import book_index
+import book_numbers
 from book_code import anchor
 from book_pages import DOCS, MARK
 from definitions import CRATES, NAME, Key, ghost_scope, without_comment
 
 TOP = os.path.join(DOCS, "..")
-MOST_BYTES = {"BOOK.md": 3000, "READING.md": 8000, "book.d": 85000}
 IO_PAGE = 0o760000
 # The page with the promises, each by the clause of a call.
 THEOREM = os.path.join("book.d", "00-promises.md")
@@ -29,7 +30,8 @@ def faults(book):
     yield from quotations("READING.md")
     yield from quotations(THEOREM)
     yield from rests_on(book)
-    yield from sizes()
+    yield from book_index.faults(book)
+    yield from book_numbers.faults(book)
 
 
 def read(*parts):
@@ -109,11 +111,7 @@ def registers(book):
 
 
 def contents(book):
-    """docs/BOOK.md lists just the pages, by their titles; chapters that words name are there."""
-    listed = re.findall(r"^(\d+)\. \[(.*?)\]\(book\.d/(.*?)\)", read(DOCS, "BOOK.md"), re.M)
-    there = [(str(page.number), page.title, page.file) for page in book.pages if page.number]
-    if listed != there:
-        yield f"docs/BOOK.md lists other pages: {sorted(set(listed) ^ set(there))}"
+    """Chapters begin with their numbers, and those that words name are there."""
     numbers = {page.number for page in book.pages}
     for page in book.pages:
         if page.number and not page.text.startswith(f"# {page.number}. "):
@@ -210,14 +208,6 @@ def dedented(text):
     return "\n".join(line.strip() for line in text.splitlines() if line.strip())
 
 
-def sizes():
-    for name, most in MOST_BYTES.items():
-        path = os.path.join(DOCS, name)
-        size = sum(map(os.path.getsize, glob.glob(os.path.join(path, "*.md")) if os.path.isdir(path) else [path]))
-        if size > most:
-            yield f"docs/{name} has {size} bytes, more than {most}"
-
-
 class Places(html.parser.HTMLParser):
     """The places of a page and the places to which it links."""
 
@@ -244,6 +234,16 @@ def names_without_link(book, page):
         for other in book.sources.named("\n".join(book.sources.lines[key]), book.scope(key)) - {key}:
             if anchor(other) not in links and not other[-1].startswith("◌"):
                 yield f"{name_of(key)} names {name_of(other)} without a link"
+
+
+def links_between(files):
+    """The links of the pages of chapters that go nowhere: to a place that a page hasn't, or to no page."""
+    places = {name: Places(text) for name, text in files.items() if name.endswith(".html")}
+    for name, page in sorted(places.items()):
+        for target in sorted(page.links):
+            file, _, place = target.partition("#")
+            if file and file not in files or place and place not in places.get(file or name, page).places:
+                yield f"{name} has a link to {target}, which isn't there"
 
 
 def links_to_nowhere(page):

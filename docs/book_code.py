@@ -107,6 +107,13 @@ class Code:
             return word, None
         return meaning
 
+    def meaning_in_words(self, word, line, at):
+        """Among the words: a name that one definition, type or call alone has, or one of the toolchain's."""
+        name = word.split(".")[0]
+        if name in self.only and re.search(r"[A-Z_]", name):
+            return name, link(anchor(self.only[name]), "@")
+        return name, self.toolchain(name)
+
     def meaning_of_call(self, scope):
         def meaning(word, line, at):
             part, found = self.book.sources.of_word(word, scope)

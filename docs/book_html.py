@@ -1,19 +1,17 @@
-"""The book as one HTML page. A module for docs/book; it isn't run by itself. The words go through cmark-gfm, GitHub's
-Markdown (Debian: apt-get install cmark-gfm); docs/book_code.py sets the definitions."""
+"""The book in HTML, as one page and as a page a chapter. A module for docs/book; it isn't run by itself. The words go through
+cmark-gfm, GitHub's Markdown (Debian: apt-get install cmark-gfm); docs/book_code.py sets the definitions."""
 import collections
 import html
+import json
 import os
 import re
 import subprocess
 
+import book_index
 from book_code import Code, anchor, link
-from book_pages import DOCS, MARK, REGISTERS, plain_name
+from book_pages import DOCS, MARK, REGISTERS, plain_name, slug
 
 OWN = '<abbr class="own" title="This project\'s choice: the handbooks leave it open, or models differ">own</abbr>'
-
-
-def slug(text):
-    return re.sub(r"[^\w.]+", "-", text).strip("-").lower()
 
 
 def register_place(register):
@@ -111,7 +109,14 @@ class HtmlPage:
         made = re.sub(r"\b(chapters?)\s(\d+(?:(?:,| and| to)\s\d+)*)", self.chapters_named, made)
         made = re.sub(r"<p>Worked", '<p class="worked"><em>Worked</em>', made)
         made = made.replace("[own]", OWN)
+        made = re.sub(r"<pre><code>(.*?)</code></pre>", self.clause, made, flags=re.S)
         return self.names_of_toolchain(made) if page.has_notation else self.code.linked_names(made, "<code>")
+
+    def clause(self, found):
+        """Lines of code among the words, a clause mostly: set as definitions are, with its names as links."""
+        lines = html.unescape(found.group(1)).rstrip("\n").split("\n")
+        coded = [self.code.code(line, self.code.meaning_in_words, None) for line in lines]
+        return '<section class="put"><div>' + "\n".join(f'<code style="--i:0">{line}</code>' for line in coded) + "</div></section>"
 
     def names_of_toolchain(self, made):
         """The page with the notation, with a place for each name of the toolchain where the table first has it."""
@@ -124,51 +129,106 @@ class HtmlPage:
         made = made.replace("<!-- registers -->", self.registers(page), 1)
         return MARK.sub(lambda mark: self.block(page, *(part or "" for part in mark.groups())), made)
 
-    # The page
+    # The pages
 
-    def contents(self):
+    def contents(self, now=None):
         made = []
         for page in self.book.pages:
-            title = f"{page.number}. {page.title}" if page.number else page.title
             inner = "".join(f"<li>{link(*section)}</li>" for section in self.sections[page])
-            made.append(f'<details><summary>{link(page.place, title)}</summary><ul>{inner}</ul></details>')
+            opened = " open" if page is now else ""
+            made.append(f"<details{opened}><summary>{link(page.place, titled(page))}</summary><ul>{inner}</ul></details>")
         return "\n".join(made) + f'<p>{link("index", "Index")}</p>'
 
-    def index_made(self):
-        """The index by its first letters."""
-        letters = collections.defaultdict(list)
-        for name in sorted(self.index, key=lambda name: (name.lower(), name)):
-            first = name[0].upper() if name[0].isalpha() else "&amp;"
-            places = ", ".join(link(place, f"{page.number or page.title}") for place, _, page in self.index[name])
-            letters[first].append(f"<li>{self.index[name][0][1]} {places}</li>")
-        letter_links = " ".join(link(f"index-{letter[0]}", letter) for letter in sorted(letters))
-        lists = "".join(f'<h3 id="index-{letter[0]}">{letter}</h3><ul class="index">{"".join(letters[letter])}</ul>'
-                        for letter in sorted(letters))
-        return f'<h1 id="index">Index</h1><p>The number is that of the chapter.</p><p>{letter_links}</p>{lists}'
+    def articles(self):
+        """The chapters in HTML, each with its page, and the index with none."""
+        made = [(page, self.chapter(page)) for page in self.book.pages]
+        return [*made, (None, book_index.made(self.book, self.index, link))]
 
-    def made(self):
-        chapters = "\n".join(f"<article>{self.chapter(page)}</article>" for page in self.book.pages)
-        with open(os.path.join(DOCS, "book.css"), encoding="utf-8") as file:
-            style = file.read()
-        return f"""<!doctype html>
+    def whole(self):
+        """All on one page, for paper."""
+        chapters = "\n".join(f"<article>{made}</article>" for _, made in self.articles())
+        return framed("", f"<style>\n{read('book.css')}</style>", self.contents(), chapters, "")
+
+    def files(self):
+        """The book as files by their names: a page a chapter, and what these load."""
+        articles = self.articles()
+        owner = {place: file_of(page) for page, made in articles for place in re.findall(r'\bid="(.*?)"', made)}
+        made = {"book.css": read("book.css"), "search.js": read("book_search.js"), "places.js": self.places(articles)}
+        for at, (page, article) in enumerate(articles):
+            before = [link(place_of(other), "← " + titled(other)) for other, _ in articles[max(0, at - 1):at]]
+            behind = [link(place_of(other), titled(other) + " →") for other, _ in articles[at + 1:at + 2]]
+            around = f'<p class="around">{" ".join(before + behind)}</p>'
+            text = framed(titled(page) + " · ", '<link rel="stylesheet" href="book.css">', SEARCH + self.contents(page),
+                          f"<article>{article}</article>\n{around}", SCRIPTS)
+            made[file_of(page)] = re.sub(r'href="#(.*?)"', lambda found, page=page: self.led(owner, page, found[1]), text)
+        return made
+
+    def led(self, owner, page, target):
+        """A link to a place, on another page if that has it."""
+        file = owner.get(target, file_of(page))
+        return f'href="#{target}"' if file == file_of(page) else f'href="{file}#{target}"'
+
+    def places(self, articles):
+        """What the search looks through: sections with their words, definitions and registers by their names."""
+        found = []
+        for page, article in articles[:-1]:
+            parts = re.split(r'<h[12] id="(.*?)">(.*?)</h[12]>', article)
+            for target, title, text in zip(parts[1::3], parts[2::3], parts[3::3]):
+                words = " ".join(html.unescape(re.sub(r"<.*?>", " ", re.sub(r"(?s)<section.*?</section>", " ", text))).split())
+                name = html.unescape(re.sub("<.*?>", "", title))
+                found.append([f"{page.number or page.title}: {name}", f"{file_of(page)}#{target}", words])
+        for name, places in sorted(self.index.items()):
+            found += [[html.unescape(name), f"{file_of(page)}#{target}", titled(page)] for target, _, page in places]
+        for word, places in book_index.terms(self.book):
+            found += [[word, f"{file_of(page)}#{target}", titled(page)] for target, page in places if target]
+        return f"const PLACES = {json.dumps(found, ensure_ascii=False)};\n"
+
+
+SEARCH = '<input type="search" id="search" placeholder="Search" aria-label="Search"><ul id="found"></ul>\n'
+SCRIPTS = '<script src="places.js"></script>\n<script src="search.js"></script>\n'
+
+
+def titled(page):
+    """The title of a chapter with its number; of the index, which is no chapter."""
+    return "Index" if page is None else f"{page.number}. {page.title}" if page.number else page.title
+
+
+def place_of(page):
+    return "index" if page is None else page.place
+
+
+def file_of(page):
+    """The file of a chapter; of the index."""
+    return "words.html" if page is None else "index.html" if page.place == "promises" else f"{page.place}.html"
+
+
+def read(name):
+    with open(os.path.join(DOCS, name), encoding="utf-8") as file:
+        return file.read()
+
+
+def framed(title, style, contents, main, scripts):
+    """A page."""
+    return f"""<!doctype html>
 <html lang="en">
 <head>
 <meta charset="utf-8">
 <meta name="viewport" content="width=device-width, initial-scale=1">
 <meta name="color-scheme" content="light dark">
-<title>The PDP-11/40 of p11</title>
-<style>
-{style}</style>
+<title>{title}The PDP-11/40 of p11</title>
+{style}
 </head>
 <body>
-<nav><p class="title">{link(self.book.pages[0].place, "The PDP-11/40 of p11")}</p>
-{self.contents()}
+<nav><p class="title">{link("promises", "The PDP-11/40 of p11")}</p>
+<input type="checkbox" id="menu"><label for="menu">Contents</label>
+<div class="toc">
+{contents}
+</div>
 </nav>
 <main>
-{chapters}
-<article>{self.index_made()}</article>
+{main}
 </main>
-</body>
+{scripts}</body>
 </html>
 """
 

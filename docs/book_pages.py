@@ -48,6 +48,11 @@ class Page:
         return Register(self, address, name, access, [field(text) for text in filter(None, bits.split(", "))])
 
 
+def slug(text):
+    """The part of an anchor that a section's title is."""
+    return re.sub(r"[^\w.]+", "-", text).strip("-").lower()
+
+
 def field(text):
     """A field of a register, as `13:12 PREV` or `4 T` says it."""
     bits, _, name = text.partition(" ")

@@ -16,20 +16,18 @@ READ = ["docs/contracts", "docs/contracts.py", "docs/definitions.py", "tools/fun
 # What is lost, the file in crates/, its text and the weaker one, and what has to be said.
 WEAKENED = [
     (
-        "nothing ties what is done to the keyboard's bytes",
-        "p11_dialogue/src/whole_dialogue.rt",
-        "        × (waiting : List ℕ) × (pending : Pending) × (left : KeyboardState)\n"
-        "        × Given deeds waiting pending\n"
-        "        (record { left = K.remaining person.keyboard; is_terminal = K.terminal person.keyboard }) left }\n{\n    converse_from::<",
-        "        }\n{\n    converse_from::<",
-        "contract changed: converse (p11_dialogue)",
+        "a step of the console may do anything",
+        "p11_console/src/console.rt",
+        "-> Want\n        ensures { Steps turns self.old result self.new }\n    {",
+        "-> Want\n    {",
+        "contract changed: Console::step (p11_console)",
     ),
     (
         "a file may get its name with some of its bytes",
         "p11_files/src/new_file.rt",
         "    ensures bytes { OnOk result (Appends (N.state new.old).taken (N.state new.new).taken bytes.now) }\n"
-        "    ensures name { (N.state new.new).is_named ≡ is_ok result }\n{\n    match write_and_name",
-        "    ensures name { (N.state new.new).is_named ≡ is_ok result }\n{\n    match write_and_name",
+        "    ensures name { (N.state new.new).is_named ≡ is_ok result }\n    ensures gone",
+        "    ensures name { (N.state new.new).is_named ≡ is_ok result }\n    ensures gone",
         "contract changed: fill (p11_files)",
     ),
     (

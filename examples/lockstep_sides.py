@@ -15,96 +15,110 @@ import pty
 import re
 import select
 import subprocess
+import sys
 import tempfile
 import tty
 
-from p11_library import Machine
-
-NUMBERS = ("0", "1", "2", "3", "4", "5", "6", "10", "7", "11")
+PYTHON = os.path.join(os.path.dirname(os.path.realpath(__file__)), "..", "python")
+SET = ("r0", "r1", "r2", "r3", "r4", "r5", "ksp", "usp", "pc", "ps")
 INPUT_OUTPUT_PAGE = 0o760000
 NAMES = ["R0", "R1", "R2", "R3", "R4", "R5", "KSP", "USP", "PC", "PSW"]
 MOST = 100000000
 
 
 class Ours:
-    """The proved machine."""
+    """The proved machine, over the library that python/p11 finds, or another shared object."""
 
-    def __init__(self, library):
-        self.library, self.machine = library, None
+    def __init__(self, library=None):
+        if library:
+            os.environ["P11_LIBRARY"] = os.path.abspath(library)
+        sys.path.insert(0, PYTHON)
+        # this side alone wants the library
+        from p11 import Machine
+        self.make, self.machine = Machine, None
 
     def new(self, kwords):
         self.drop()
-        self.machine = Machine(self.library, kwords)
+        self.machine = self.make(kwords)
 
     def drop(self):
         if self.machine is not None:
-            self.machine.drop()
+            self.machine.close()
 
     def disk(self, image):
-        self.machine.put(b"pack", image)
-        self.machine.line("mount 0 pack rw")
+        self.machine.mount(0, image)
 
     def put(self, address, words):
-        for at in range(0, len(words), 64):
-            self.machine.line(f"deposit {address + 2 * at:o} " + " ".join(f"{word:o}" for word in words[at:at + 64]))
+        self.machine.deposit(address, words)
 
     def go(self, address):
-        self.machine.line(f"start {address:o}")
+        self.machine.start(address)
 
     def regs(self, words):
-        for number, word in zip(NUMBERS, words):
-            self.machine.line(f"set {number} {word:o}")
+        self.machine.set(**dict(zip(SET, words)))
 
     def devices(self, switches, clock, keys, packs):
         """Sets the switches and the clock's period, presses keys, and mounts packs: drive, whether it's protected, file."""
         self.machine.line(f"switches {switches:o}")
         for drive, protected, name in packs:
             with open(name, "rb") as file:
-                self.machine.put(b"pack", file.read())
-            self.machine.line(f"mount {drive} pack {'ro' if protected else 'rw'}")
+                self.machine.mount(drive, file.read(), not protected)
         self.machine.line(f"clock {clock}")
         if keys:
-            self.machine.line("key " + "".join(f"\\{key:03o}" for key in keys))
+            self.machine.key(bytes(keys))
 
     def step(self, turns):
-        while turns:
-            self.machine.line(f"step {min(turns, MOST)}")
-            turns -= min(turns, MOST)
+        if turns:
+            self.machine.step(turns)
         return self.state()
 
     def state(self):
-        registers, mark, _ = self.machine.registers()
-        return registers, mark
+        registers = self.machine.regs
+        return registers[:10], registers.mark
 
     def until(self, address):
-        for _ in range(MOST):
-            registers, mark = self.step(1)
-            if registers[8] == address or mark == "halted":
-                return registers, mark
-        raise ValueError(f"PC isn't {address:o} after {MOST} turns")
+        return until(self, address)
 
     def words_at_pc(self):
         """Three words from PC on, through memory management where it is on; None where nothing answers."""
-        registers, _, status_0 = self.machine.registers()
-        place = registers[8]
+        registers = self.machine.regs
         try:
-            if status_0 & 1:
-                pages = 0o777600 if registers[9] & 0o140000 else 0o772300
-                base = self.machine.words(pages + 0o40 + place // 0o20000 * 2)[0]
-                bus = (base * 0o100 + place % 0o20000) % 0o1000000
+            if registers.sr0 & 1:
+                pages = 0o777600 if registers.ps & 0o140000 else 0o772300
+                base = self.machine.examine(pages + 0o40 + registers.pc // 0o20000 * 2)
+                bus = (base * 0o100 + registers.pc % 0o20000) % 0o1000000
             else:
-                bus = place + 0o600000 if place >= 0o160000 else place
-            return self.machine.words(bus, 3)
+                bus = registers.pc + 0o600000 if registers.pc >= 0o160000 else registers.pc
+            return self.machine.examine(bus, 3)
         except ValueError:
             return None
 
 
+def until(side, address):
+    """Steps until PC is an address, or the machine halts."""
+    for _ in range(MOST):
+        registers, mark = side.step(1)
+        if registers[8] == address or mark == "halted":
+            return registers, mark
+    raise ValueError(f"PC isn't {address:o} after {MOST} turns")
+
+
+class NoSuchLine(ValueError):
+    """A command answers `?`."""
+
+
 class Command:
-    """A command that speaks the protocol."""
+    """A command that speaks the protocol. One that doesn't know `new` is started again for each machine, and one that doesn't know
+    `until` is stepped."""
 
     def __init__(self, words):
-        self.process = subprocess.Popen(words, stdin=subprocess.PIPE, stdout=subprocess.PIPE, text=True, bufsize=1)
-        self.name = words[0]
+        self.command, self.name = words, words[0]
+        self.has_new = self.has_until = True
+        self.begin()
+
+    def begin(self):
+        self.process = subprocess.Popen(self.command, stdin=subprocess.PIPE, stdout=subprocess.PIPE, text=True, bufsize=1)
+        self.is_fresh = True
 
     def ask(self, line):
         try:
@@ -113,12 +127,22 @@ class Command:
         except BrokenPipeError:
             raise ValueError(f"{self.name} has ended before: {line[:60]}") from None
         answer = self.process.stdout.readline().split()
-        if not answer or answer[0] == "?":
-            raise ValueError(f"{self.name} answers {' '.join(answer) or 'nothing'} to: {line[:60]}")
+        if not answer:
+            raise ValueError(f"{self.name} answers nothing to: {line[:60]}")
+        if answer[0] == "?":
+            raise NoSuchLine(f"{self.name} answers {' '.join(answer)} to: {line[:60]}")
         return answer
 
     def new(self, kwords):
-        self.ask(f"new {kwords}")
+        if not self.has_new and not self.is_fresh:
+            self.drop()
+            self.begin()
+        try:
+            if self.has_new:
+                self.ask(f"new {kwords}")
+        except NoSuchLine:
+            self.has_new = False
+        self.is_fresh = False
 
     def disk(self, image):
         with tempfile.NamedTemporaryFile() as file:
@@ -153,7 +177,11 @@ class Command:
         return self.state_of(self.ask(f"step {turns}"))
 
     def until(self, address):
-        return self.state_of(self.ask(f"until {address:o}"))
+        try:
+            return self.state_of(self.ask(f"until {address:o}")) if self.has_until else until(self, address)
+        except NoSuchLine:
+            self.has_until = False
+            return until(self, address)
 
     def drop(self):
         try:

@@ -1,13 +1,12 @@
-"""lockstep_faulty.py LIBRARY FAULT: a machine with a fault, which speaks the protocol of examples/lockstep: the proved one
+"""lockstep_faulty.py LIBRARY FAULT [few]: a machine with a fault, which speaks the protocol of examples/lockstep: the proved one
 over the library, whose registers are set wrong behind the instruction that the fault is of. LIBRARY is the library for C
-as a shared object; a FAULT of `none` is none."""
+as a shared object; a FAULT of `none` is none. With `few` it speaks those lines alone that a COMMAND has to."""
 import os
 import sys
 
 sys.dont_write_bytecode = True
 sys.path.insert(0, os.path.join(os.path.dirname(os.path.abspath(__file__)), "..", "examples"))
 from lockstep_sides import Ours  # noqa: E402 (no compiled files are left beside the scripts)
-from p11_library import open_library  # noqa: E402
 
 
 def asr_without_sign(machine, word, before):
@@ -19,14 +18,14 @@ def asr_without_sign(machine, word, before):
 
 def sub_without_borrow(machine, word, before):
     """SUB never sets C."""
-    registers, _, _ = machine.registers()
+    registers = machine.regs
     if word >> 12 == 0o16 and registers[9] & 1:
         machine.line(f"set 11 {registers[9] & ~1:o}")
 
 
 def sob_once_more(machine, word, before):
     """SOB goes back when its register has come to 0, too."""
-    registers, _, _ = machine.registers()
+    registers = machine.regs
     number = word >> 6 & 7
     if word >> 9 == 0o77 and number < 6 and registers[number] == 0:
         machine.line(f"set 7 {registers[8] - 2 * (word & 0o77):o}")
@@ -55,8 +54,10 @@ class Faulty(Ours):
         return self.state()
 
 
-def answer(machine, line):
+def answer(machine, line, few):
     name, *words = line.split()
+    if few and name in ("new", "until"):
+        return f"? no such line: {line}"
     if name == "new":
         machine.new(int(words[0]))
     elif name == "disk":
@@ -75,10 +76,12 @@ def answer(machine, line):
 
 
 def main():
-    library, fault = sys.argv[1:]
-    machine = Faulty(open_library(library), FAULTS[fault])
+    library, fault, *few = sys.argv[1:]
+    machine = Faulty(library, FAULTS[fault])
+    if few:
+        machine.new(28)
     for line in sys.stdin:
-        print(answer(machine, line.strip()), flush=True)
+        print(answer(machine, line.strip(), few), flush=True)
     machine.drop()
 
 

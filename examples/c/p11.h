@@ -1,9 +1,9 @@
-/* A PDP-11/40 that is proved, for C: whole sessions of the operator's console, from bytes to bytes, and a machine that
- * is kept from line to line.
+/* A PDP-11/40 that is proved, for C: whole sessions of the operator's console, from bytes to bytes; a machine that is
+ * kept from line to line; and the console of a dialogue, which is given events and does no input or output.
  *
- * Link libp11_c.a and, behind it, the toolchain's liblibc_c.a, which passes the library's requests for memory on to
- * malloc, realloc and free. The language of scripts and answers is in docs/OPERATOR.md, what is proved of these calls
- * and what a caller owes in docs/PROVED.md (under p11_c). */
+ * Link libp11.a, which takes its memory from malloc, realloc and free (docs/LIBRARY.md says where it lies). The language of
+ * scripts and answers is in docs/OPERATOR.md, what is proved of these calls and what a caller owes in docs/PROVED.md (under
+ * p11_c). */
 #ifndef P11_H
 #define P11_H
 
@@ -18,13 +18,13 @@ extern "C" {
 enum {
     P11_DONE = 0,      /* the session is done; a refused line of the script has its refusal in the answers */
     P11_NO_MEMORY = 1, /* there is no memory for the machine, the files, the answers or the typed bytes */
-    P11_BAD_SIZE = 2,  /* no machine has these sizes */
+    P11_BAD_SIZE = 2,  /* no machine has these sizes, or no dialogue this manner */
     P11_BAD_FILES = 3, /* the bytes of the files are no row of files, or no row has a file of these lengths */
     P11_TOO_SMALL = 4, /* a buffer is too small: the lengths are told */
     P11_TOO_LONG = 5,  /* the script wasn't read to its end: it has 4,095,995,904 bytes or more */
-    P11_NO_MACHINE = 6, /* the handle holds no machine */
-    P11_NO_FILE = 7,   /* the machine's store has no file of this name */
-    P11_TOO_MANY = 8   /* no run has so many turns */
+    P11_NO_MACHINE = 6, /* the handle holds no machine, or no console */
+    P11_NO_FILE = 7,   /* the machine's store has no file of this name, or the console wants none */
+    P11_TOO_MANY = 8   /* no run has so many turns, or no output so many bytes */
 };
 
 #if defined(__GNUC__)
@@ -206,6 +206,170 @@ int32_t p11_files(struct p11_handle *handle, uint8_t *files_out, size_t files_ca
 /* Drops the machine, if the handle holds one: its memory is freed, and the handle holds none. */
 P11_NONNULL
 void p11_drop(struct p11_handle *handle);
+
+/* A handle of a console, as p11_handle is one of a machine: it begins as `struct p11_console console = {0};`, and what is said
+ * there of copies, threads, signals and forks holds here. Each call below answers P11_NO_MACHINE where it holds none, and does and
+ * writes nothing then. */
+struct p11_console {
+    void *at;
+    uint32_t consoles;
+};
+
+/* Where the lines of a dialogue come from: the manner of p11_console_new. */
+enum {
+    P11_TYPED = 0, /* a person types them, behind a prompt, with editing, history and completion */
+    P11_GIVEN = 1, /* a program or a file gives them */
+    P11_BATCH = 2  /* a script is all: each line has the answer that a session gives it */
+};
+
+/* Makes a console over a new machine; nothing is under way.
+ *
+ * kwords, lines  as for p11_session
+ * manner         P11_TYPED, P11_GIVEN or P11_BATCH
+ * strict         not 0: a script that is all ends at its first refused line
+ * saveless       not 0: `save` is answered, and writes nothing
+ * talk           not 0: the machine's terminal comes before the first line that is typed
+ *
+ * P11_DONE: the handle holds the console, and one that it held before is dropped. P11_NO_MEMORY, P11_BAD_SIZE: it holds what it
+ * held. */
+P11_NONNULL
+int32_t p11_console_new(uint32_t kwords, uint32_t lines, uint32_t manner, uint32_t strict, uint32_t saveless,
+                        uint32_t talk, struct p11_console *console);
+
+/* The lines of the file of this name come first, where nothing is under way, as behind p11_console_new: the first step asks for
+ * it. P11_NO_MEMORY: nothing changes. */
+P11_NONNULL
+int32_t p11_console_open(struct p11_console *console, const uint8_t *name, size_t length);
+
+/* A line that was typed in an earlier dialogue, with no LF: the newest of the history. P11_NO_MEMORY: nothing changes. */
+P11_NONNULL
+int32_t p11_console_remember(struct p11_console *console, const uint8_t *line, size_t length);
+
+/* Keys come behind those that wait, as the keyboard gives them; of a program they are lines, each with LF. P11_NO_MEMORY: none
+ * of them is taken. */
+P11_NONNULL
+int32_t p11_console_keys(struct p11_console *console, const uint8_t *bytes, size_t length);
+
+/* No key comes any more: what waits is done, and then the dialogue ends. */
+P11_NONNULL
+int32_t p11_console_closed(struct p11_console *console);
+
+/* The keyboard has nothing more for now: an ESC that stands alone was no key. */
+P11_NONNULL
+int32_t p11_console_paused(struct p11_console *console);
+
+/* The line clock ticks, once the machine can take that. */
+P11_NONNULL
+int32_t p11_console_ticked(struct p11_console *console);
+
+/* The screen has so many columns; 80 before it is told. */
+P11_NONNULL
+int32_t p11_console_resized(struct p11_console *console, size_t columns);
+
+/* Shows the line again that is typed, as when the terminal was another program's. */
+P11_NONNULL
+int32_t p11_console_redrawn(struct p11_console *console);
+
+/* What a console wants behind a step. */
+enum {
+    P11_WANTS_STEP = 0,   /* a further step */
+    P11_WANTS_KEYS = 1,   /* keys, or that no key comes any more: nothing is under way */
+    P11_WANTS_IDLE = 2,   /* the same, or a tick: the machine idles */
+    P11_WANTS_MEMORY = 3, /* memory, for want of which nothing was done */
+    P11_WANTS_FETCH = 4,  /* the bytes of the file that p11_console_name tells: p11_console_fetched, or p11_console_missed */
+    P11_WANTS_PUT = 5,    /* that the bytes of p11_console_image are written to that file: p11_console_put */
+    P11_WANTS_NAMES = 6,  /* names of files that begin as p11_console_front tells: p11_console_names */
+    P11_WANTS_END = 7     /* nothing more: the dialogue is over */
+};
+
+/* Does one thing, and tells what is wanted then: takes a key, does a line, makes a slice of a run of at most so many turns (0 is
+ * as 1), presses keys, shows what was typed, or tells an answer. What there is to write is in the outputs. */
+P11_NONNULL
+int32_t p11_console_step(struct p11_console *console, uint32_t turns, uint32_t *want);
+
+/* The outputs: bytes for the screen, lines of the record, which ./p11 plays, and lines for the history's file. Each call hands
+ * out those that weren't taken, from their front, as far as bytes has room, and tells in length how many they are; the bytes
+ * behind them are as they were. 0: there are none, or no room. They stay until as many are taken. */
+P11_NONNULL
+int32_t p11_console_screen(struct p11_console *console, uint8_t *bytes, size_t capacity, size_t *length);
+P11_NONNULL
+int32_t p11_console_record(struct p11_console *console, uint8_t *bytes, size_t capacity, size_t *length);
+P11_NONNULL
+int32_t p11_console_past(struct p11_console *console, uint8_t *bytes, size_t capacity, size_t *length);
+
+/* So many bytes of the screen's, the record's, the history's are taken, from their front. P11_TOO_MANY: there are fewer, and
+ * none is. */
+P11_NONNULL
+int32_t p11_console_shown(struct p11_console *console, size_t count);
+P11_NONNULL
+int32_t p11_console_recorded(struct p11_console *console, size_t count);
+P11_NONNULL
+int32_t p11_console_kept(struct p11_console *console, size_t count);
+
+/* What is said of a script that is all, for the standard error, whole, as p11_answer hands out its text; and that it is taken. */
+P11_NONNULL
+int32_t p11_console_errors(struct p11_console *console, uint8_t *bytes, size_t capacity, size_t *length);
+P11_NONNULL
+int32_t p11_console_told(struct p11_console *console);
+
+/* Hand out the name of the file that is wanted or to be written, and the bytes that it is to have, as p11_answer hands out its
+ * text; not ended by a 0. P11_NO_FILE: none is, and nothing is written. */
+P11_NONNULL
+int32_t p11_console_name(struct p11_console *console, uint8_t *bytes, size_t capacity, size_t *length);
+P11_NONNULL
+int32_t p11_console_image(struct p11_console *console, uint8_t *bytes, size_t capacity, size_t *length);
+
+/* Tells of that file, 1 for yes: replace, whether one of its name that is there may be written over; pack, whether it is a pack's,
+ * which a later save may write over unasked. */
+P11_NONNULL
+int32_t p11_console_request(struct p11_console *console, uint32_t *replace, uint32_t *pack);
+
+/* What became of a file. */
+enum {
+    P11_FILE_WRITTEN = 0, /* it is written */
+    P11_FILE_THERE = 1,   /* one of its name is there, and may not be written over */
+    P11_FILE_MISSING = 2, /* no such file */
+    P11_FILE_DENIED = 3,  /* permission denied */
+    P11_FILE_FOLDER = 4,  /* it is a folder */
+    P11_FILE_PATH = 5,    /* its folder isn't there, or takes no new file */
+    P11_FILE_LONG = 6,    /* it can't be read to its end, or is longer than 16,773,120 bytes */
+    P11_FILE_MEMORY = 7,  /* there is no memory for it: the line is refused with 12 NoMemory, and at each other with 14 StoreFault */
+    P11_FILE_FAULT = 8    /* the host can't read or write it */
+};
+
+/* The answers to P11_WANTS_FETCH: the bytes of the file, which are copied; or why there are none, P11_FILE_MISSING to
+ * P11_FILE_FAULT. Where none is wanted nothing is done. P11_NO_MEMORY of the first: nothing changes, and it is wanted still. */
+P11_NONNULL
+int32_t p11_console_fetched(struct p11_console *console, const uint8_t *bytes, size_t length);
+P11_NONNULL
+int32_t p11_console_missed(struct p11_console *console, uint32_t trouble);
+
+/* The answer to P11_WANTS_PUT: P11_FILE_WRITTEN, P11_FILE_THERE, at which a person is asked, or why it can't be written. Where none
+ * was to be written nothing is done. */
+P11_NONNULL
+int32_t p11_console_put(struct p11_console *console, uint32_t trouble);
+
+/* Hands out the word at the cursor, with which the names have to begin that P11_WANTS_NAMES asks for, as p11_answer its text. */
+P11_NONNULL
+int32_t p11_console_front(struct p11_console *console, uint8_t *bytes, size_t capacity, size_t *length);
+
+/* The answer to P11_WANTS_NAMES: names, a byte 0 between each and the next, of a folder with / behind it; no bytes are no name.
+ * Where none are wanted nothing is done. P11_NO_MEMORY: nothing changes, and they are wanted still. */
+P11_NONNULL
+int32_t p11_console_names(struct p11_console *console, const uint8_t *names, size_t length);
+
+/* Tells the status with which a program that holds this dialogue ends, once it is over: 1 of a script that is all and isn't there,
+ * or is strict and has a refused line; else 0. */
+P11_NONNULL
+int32_t p11_console_status(struct p11_console *console, uint32_t *status);
+
+/* Tells the program counter of the console's machine, R7, with no effect on it. */
+P11_NONNULL
+int32_t p11_console_pc(struct p11_console *console, uint32_t *pc);
+
+/* Drops the console and its machine, if the handle holds one: their memory is freed, and the handle holds none. */
+P11_NONNULL
+void p11_console_drop(struct p11_console *console);
 
 #ifdef __cplusplus
 }

@@ -1,4 +1,4 @@
-/* refuse: plays one session, and then its lines on a machine in a handle, while each request for memory in turn is
+/* refuse: plays one session, and then its lines on a machine in a handle and at a console, while each request for memory in turn is
  * refused, by itself and then with all that follow it; says how many calls met a refusal. Linked with --wrap for malloc
  * and realloc. A session then ends with P11_NO_MEMORY and nothing written, or is done, with the refusal in an answer. */
 #include <stdio.h>
@@ -72,6 +72,37 @@ static int keeps(void) {
     return good && machine.machines == 0;
 }
 
+/* Gives a console what it wants: the lines of the script once, files of one byte, and a file that is written. */
+static int answer(struct p11_console *console, uint32_t want, int *is_given) {
+    if (want == P11_WANTS_FETCH) return p11_console_fetched(console, files + 9, 1);
+    if (want == P11_WANTS_PUT) return p11_console_put(console, P11_FILE_WRITTEN);
+    if (want != P11_WANTS_KEYS && want != P11_WANTS_IDLE) return P11_DONE;
+    if (*is_given) return p11_console_closed(console);
+    int status = p11_console_keys(console, script, sizeof script - 1);
+    *is_given = status == P11_DONE;
+    return status;
+}
+
+/* A dialogue of the same lines. What finds no memory is asked for once more, with all memory, and the dialogue comes to its end. */
+static int holds(void) {
+    struct p11_console console = {0};
+    uint32_t want = P11_WANTS_STEP;
+    size_t length = 1;
+    int good = 1, is_given = 0, status = p11_console_new(28, 16, P11_GIVEN, 0, 0, 0, &console);
+    if (status != P11_DONE) return status == P11_NO_MEMORY && console.consoles == 0;
+    while (good && want != P11_WANTS_END) {
+        good = p11_console_step(&console, 5, &want) == P11_DONE;
+        status = answer(&console, want, &is_given);
+        good &= status == P11_DONE || status == P11_NO_MEMORY;
+        if (status == P11_NO_MEMORY || want == P11_WANTS_MEMORY) left_to_grant = -1;
+    }
+    while (good && length > 0)
+        good = p11_console_screen(&console, out, 7, &length) == P11_DONE && p11_console_shown(&console, length) == P11_DONE;
+    good &= is_given && p11_console_shown(&console, 1) == P11_TOO_MANY;
+    p11_console_drop(&console);
+    return good && console.consoles == 0;
+}
+
 int main(void) {
     long refused = 0;
     for (refuses_on = 0; refuses_on < 2; refuses_on++) {
@@ -91,9 +122,9 @@ int main(void) {
         for (long granted = 0;; granted++) {
             left_to_grant = granted;
             was_refused = 0;
-            int good = keeps();
+            int good = keeps() && holds();
             left_to_grant = -1;
-            if (!good) return fprintf(stderr, "refuse: a machine that is kept, behind %ld requests\n", granted), 1;
+            if (!good) return fprintf(stderr, "refuse: a machine or a console, behind %ld requests\n", granted), 1;
             if (!was_refused) break;
             refused++;
         }

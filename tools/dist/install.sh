@@ -37,5 +37,5 @@ if [ "$removes" ]; then
     remove
 else
     put
-    echo "installed: $("$prefix/bin/p11" --version | head -n 1), in $prefix/bin; the manual is $prefix/share/doc/p11/OPERATOR.md"
+    echo "installed: $("$prefix/bin/p11" --version | head -n 1), in $prefix/bin; the manual is $prefix/share/doc/p11/docs/OPERATOR.md"
 fi

@@ -15,7 +15,7 @@ const said = (details) => details.exception?.description ?? details.text;
 class ChromiumPage extends Page {
   constructor(child, home) {
     super();
-    Object.assign(this, { child, home, number: 0, waiting: new Map(), isPressed: false });
+    Object.assign(this, { child, home, sent: { count: 0 }, waiting: new Map(), isPressed: false });
     let rest = '';
     child.stdio[4].on('data', (chunk) => {
       const parts = (rest + chunk).split('\0');
@@ -35,8 +35,8 @@ class ChromiumPage extends Page {
 
   send(method, params = {}) {
     return new Promise((done, fail) => {
-      this.waiting.set(++this.number, { done, fail });
-      this.child.stdio[3].write(JSON.stringify({ id: this.number, method, params, sessionId: this.sessionId }) + '\0');
+      this.waiting.set(++this.sent.count, { done, fail });
+      this.child.stdio[3].write(JSON.stringify({ id: this.sent.count, method, params, sessionId: this.sessionId }) + '\0');
     });
   }
 
@@ -56,6 +56,18 @@ class ChromiumPage extends Page {
     await this.attach(next);
   }
 
+  async tab() {
+    const other = Object.assign(Object.create(this), { targetId: undefined });
+    await other.replace();
+    return other;
+  }
+
+  async leave() {
+    const { targetId } = this;
+    this.sessionId = undefined;
+    await this.send('Target.closeTarget', { targetId });
+  }
+
   navigate(url) { return this.send('Page.navigate', { url }); }
 
   async eval(expression) {
@@ -71,6 +83,14 @@ class ChromiumPage extends Page {
       await this.send('Input.dispatchKeyEvent', { type: 'keyDown', key, windowsVirtualKeyCode, modifiers, text, commands });
       await this.send('Input.dispatchKeyEvent', { type: 'keyUp', key, windowsVirtualKeyCode, modifiers });
     }
+  }
+
+  // Text of an input method: letter by letter, then the whole.
+  async compose(text) {
+    for (let end = 1; end <= text.length; end++) {
+      await this.send('Input.imeSetComposition', { text: text.slice(0, end), selectionStart: end, selectionEnd: end });
+    }
+    await this.send('Input.insertText', { text });
   }
 
   async mouse(steps) {

@@ -96,6 +96,8 @@ async function evening({ page, url, native, examples, say }) {
   const pack = path.join(folder, 'my pack.dsk');
   fs.copyFileSync(path.join(examples, 'boot.pack'), pack);
   await page.drop(pack, 'li[data-drive="1"]');
+  await page.until("!document.querySelector('#offer').hidden");
+  await page.click('#offer button');
   await shows('mount 1 my_pack.dsk rw');
   await page.click('#screen');
   await page.type('deposit 2000 12345 54321\rdeposit 1000 777\rstart 1000\rdeposit 777410 2000\rdeposit 777406 177776\r'
@@ -158,7 +160,7 @@ async function downloaded(page, folder, selector, name) {
   fs.rmSync(file, { force: true });
   await page.click(selector);
   const size = () => (fs.existsSync(file) && !fs.existsSync(file + '.part') ? fs.statSync(file).size : 0);
-  for (let n = 0; n < 500 && size() === 0; n++) await sleep(20);
+  for (let n = 0; n < 3000 && size() === 0; n++) await sleep(20);
   for (let was = 0; was !== size(); await sleep(100)) was = size();
   const bytes = fs.readFileSync(file);
   fs.rmSync(file);

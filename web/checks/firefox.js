@@ -22,7 +22,7 @@ const preferences = (downloads) => Object.entries({
 class FirefoxPage extends Page {
   constructor(child, home, socket) {
     super();
-    Object.assign(this, { child, home, socket, number: 0, waiting: new Map() });
+    Object.assign(this, { child, home, socket, sent: { count: 0 }, waiting: new Map() });
     socket.onmessage = ({ data }) => this.take(JSON.parse(data));
   }
 
@@ -38,8 +38,8 @@ class FirefoxPage extends Page {
 
   send(method, params = {}) {
     return new Promise((done, fail) => {
-      this.waiting.set(++this.number, { done, fail });
-      this.socket.send(JSON.stringify({ id: this.number, method, params }));
+      this.waiting.set(++this.sent.count, { done, fail });
+      this.socket.send(JSON.stringify({ id: this.sent.count, method, params }));
     });
   }
 
@@ -50,15 +50,38 @@ class FirefoxPage extends Page {
     await this.resize();
   }
 
+  async tab() {
+    const other = Object.assign(Object.create(this), { context: undefined });
+    await other.replace();
+    return other;
+  }
+
+  leave() { return this.send('browsingContext.close', { context: this.context }); }
+
   navigate(url) { return this.send('browsingContext.navigate', { context: this.context, url, wait: 'none' }); }
 
-  // The value comes as JSON, so that it is the same as Chromium's.
+  // The value comes as JSON, so that it is the same as Chromium's. The page's policy allows no eval of its own.
   async eval(expression) {
-    const whole = `(async () => JSON.stringify(await (0, eval)(${JSON.stringify(expression)})))()`;
-    const { type, result, exceptionDetails } = await this.send('script.evaluate',
-      { expression: whole, target: { context: this.context }, awaitPromise: true });
+    const more = { target: { context: this.context }, awaitPromise: true };
+    const found = await this.script('script.evaluate', { expression, resultOwnership: 'root', ...more });
+    if (!found.handle) return found.value;
+    const { value } = await this.script('script.callFunction', { functionDeclaration: '(it) => JSON.stringify(it)', arguments: [found], ...more });
+    return value === undefined ? undefined : JSON.parse(value);
+  }
+
+  async script(method, params) {
+    const { type, result, exceptionDetails } = await this.send(method, params);
     if (type === 'exception') throw new Error(exceptionDetails.text);
-    return result.type === 'string' ? JSON.parse(result.value) : undefined;
+    return result;
+  }
+
+  // WebDriver has no input method: the page gets the events of one.
+  compose(text) {
+    return this.eval(`{ const keys = document.querySelector('#keys'), told = { data: ${JSON.stringify(text)}, bubbles: true };
+      keys.dispatchEvent(new CompositionEvent('compositionstart', { bubbles: true }));
+      keys.dispatchEvent(new InputEvent('input', { ...told, inputType: 'insertCompositionText', isComposing: true }));
+      keys.dispatchEvent(new CompositionEvent('compositionend', told));
+      keys.dispatchEvent(new InputEvent('input', { ...told, inputType: 'insertCompositionText' })); 0; }`);
   }
 
   press(strokes) {

@@ -28,7 +28,7 @@ async function opened() {
     await sleep(5);
     if (frame.contentDocument?.documentElement?.dataset.ready === 'yes') break;
   }
-  return { app: frame.contentWindow.eval('app'), view: frame.contentWindow, document: frame.contentDocument };
+  return { app: frame.contentWindow.app, view: frame.contentWindow, document: frame.contentDocument };
 }
 
 async function until(test, ms = 20000) {
@@ -48,7 +48,6 @@ async function opening() {
   for (let n = 0; n < 9; n++) {
     const { app } = await opened();
     times.push(app.openedIn);
-    await app.store.forget();
   }
   return median(times);
 }
@@ -105,7 +104,7 @@ const median = (times) => times.toSorted((a, b) => a - b)[Math.floor(times.lengt
     await post({ packs: await packs() });
     await post({ keys: await keys() });
   } catch (error) {
-    const shown = document.querySelector('#frame').contentWindow.eval('app.view.text().slice(-300)');
+    const shown = document.querySelector('#frame').contentWindow.app.view.text().slice(-300);
     await post({ error: `${error.message} ${error.stack}; the page shows ${shown}` });
   }
   await post({ isDone: true });

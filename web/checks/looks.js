@@ -3,7 +3,15 @@
 'use strict';
 const assert = require('assert'), path = require('path');
 
-const SIZES = [[360, 740], [800, 1000], [1600, 1000]];
+const SIZES = [[360, 740], [701, 900], [800, 1000], [1280, 1000], [1600, 1000]], TARGET = 24;
+const SMALL = `[...document.querySelectorAll('button, select, summary')].filter((it) => it.checkVisibility())
+  .map((it) => ({ name: it.ariaLabel ?? it.textContent, width: it.getBoundingClientRect().width, height: it.getBoundingClientRect().height }))
+  .filter(({ width, height }) => width < ${TARGET} || height < ${TARGET})`;
+const AT_END = 'app.view.element.scrollTop + app.view.element.clientHeight > app.view.element.scrollHeight - 20';
+const COLUMNS = `new Promise((done) => { app.say('\\n' + 'x'.repeat(80) + '\\n');
+  const { element } = app.view, isIn = () => element.scrollWidth <= element.clientWidth;
+  const look = () => (app.view.shown.includes('x'.repeat(80)) ? done(isIn()) : setTimeout(look, 20));
+  look(); })`;
 
 async function looks({ page, say }) {
   const folder = process.env.SHOTS;
@@ -11,12 +19,15 @@ async function looks({ page, say }) {
     await page.resize(width, height);
     const wide = await page.eval('document.documentElement.scrollWidth');
     assert(wide <= width, `at ${width} pixels the page is ${wide} wide`);
+    assert.deepEqual(await page.eval(SMALL), [], `at ${width} pixels these are less than ${TARGET} wide or high`);
+    assert(await page.eval(COLUMNS), `at ${width} pixels the screen shows less than 80 columns`);
+    await page.until(AT_END);
     for (const face of folder ? ['light', 'dark'] : []) {
       await page.shot(path.join(folder, `${page.product.split(' ')[0]}-${width}-${face}.png`), { width, height, face });
     }
   }
   await page.resize();
-  say(`nothing is cut off at ${SIZES.map(([width]) => width).join(', ')} pixels`);
+  say(`nothing is cut off, no target is below ${TARGET} pixels and 80 columns are seen at ${SIZES.map(([width]) => width).join(', ')} pixels`);
 }
 
 // Each control and lamp, as a screen reader has it, has a name.
@@ -61,4 +72,38 @@ async function keyboard({ page, say }) {
   say('a program was toggled in and run by the keyboard alone');
 }
 
-module.exports = { looks, names, keyboard };
+// A keyboard on the glass: composed text comes to the console and to the machine, once; Ctrl, Tab, Esc and the arrows are buttons.
+async function glass({ page, say }) {
+  const shows = (text, times = 1) => page.until(`app.view.text().split(${JSON.stringify(text)}).length - 1 === ${times}`);
+  await page.eval('app.sessions.fresh(28)');
+  await page.resize(...SIZES[0]);
+  await page.click('#screen');
+  await page.compose('examine 4322');
+  await page.key('Enter');
+  await shows('EXAM 004322 000000');
+  await page.click('[data-press=ArrowUp]');
+  await page.key('Enter');
+  await shows('EXAM 004322 000000', 2);
+  await page.click('#control');
+  assert.equal(await page.eval("document.querySelector('#control').ariaPressed"), 'true');
+  await page.compose('c');
+  await shows('p11> ^C');
+  await page.click('[data-boot=echo]');
+  await page.until('app.console.isRunning && app.link.asked.size === 0 && !app.console.isBrief');
+  await page.click('#screen');
+  const record = () => page.eval("app.link.ask('record')");
+  await page.compose('phone');
+  await shows('phone');
+  await page.click('[data-press=Tab]');
+  await page.click('[data-press=Escape]');
+  await page.click('[data-press=ArrowLeft]');
+  for (let was = ''; !/key .*\\033\[D\n/.test(was); was = await record()) await page.until('app.panel.lamps.keys === 0');
+  const keys = [...(await record()).matchAll(/^key (.*)$/gm)].map(([, text]) => text).join('');
+  assert(keys.endsWith('phone\\011\\033\\033[D'), `other keys came to the machine: ${keys}`);
+  await page.click('#console');
+  await page.until('!app.console.isRunning');
+  await page.resize();
+  say('text that is composed comes to the console and to the machine, and Ctrl, Tab, Esc and arrows are buttons');
+}
+
+module.exports = { looks, names, keyboard, glass };

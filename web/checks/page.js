@@ -2,8 +2,10 @@
 // browser to browser is in chromium.js and firefox.js, each of which has a Page with
 //   navigate(url)        begins to open an address
 //   replace()            closes the tab and opens another one
+//   tab()                another tab of the same browser, as a Page; leave() closes it
 //   eval(expression)     the value of an expression in the page, awaited if it is a promise
 //   press(strokes)       keys, one after another: { key, ctrl, shift }, key as a KeyboardEvent has it
+//   compose(text)        text of an input method, as a keyboard on the glass has one
 //   mouse(steps)         { at: 'move', x, y }, { at: 'down', x, y } and { at: 'up', x, y }, in pixels of the window
 //   drop(file, selector) drops a file on an element
 //   resize(width, height)  the size of the window, and with no arguments the one that it began with
@@ -31,7 +33,7 @@ class Page {
     await this.goTo(url);
   }
 
-  async until(expression, ms = 30000) {
+  async until(expression, ms = 120000) {
     for (const end = Date.now() + ms; ;) {
       if (await this.eval(expression).catch(() => false)) return;
       if (Date.now() > end) throw new Error(`never came: ${expression}; errors of the page: ${this.errors.join(' | ')}`);
@@ -50,6 +52,7 @@ class Page {
   }
 
   async click(selector) {
+    await this.until(`document.querySelector(${JSON.stringify(selector)}) !== null`);
     const at = await this.eval(`(() => { const it = document.querySelector(${JSON.stringify(selector)}); it.scrollIntoView({ block: 'nearest' });
       const { x, y, width, height } = it.getBoundingClientRect(); return { x: Math.round(x + width / 2), y: Math.round(y + height / 2) }; })()`);
     await this.mouse(['move', 'down', 'up'].map((step) => ({ at: step, ...at })));
@@ -83,6 +86,7 @@ class Page {
     await this.eval(`setFace(${JSON.stringify(face)})`);
     await sleep(200);
     fs.writeFileSync(file, await this.capture());
+    await this.eval('app.view.follow(); app.view.toEnd()');   // a picture of the whole page scrolls the screen
   }
 }
 

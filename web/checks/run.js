@@ -8,10 +8,12 @@ const { serve } = require('./serve.js');
 const { evening } = require('./evening.js');
 const { boots } = require('./boots.js');
 const { words } = require('./words.js');
-const { badFiles, trap, lacking } = require('./bad.js');
-const { looks, names, keyboard } = require('./looks.js');
+const { badFiles, trap, policy, lacking } = require('./bad.js');
+const { looks, names, keyboard, glass } = require('./looks.js');
+const { tabs, list, full } = require('./tabs.js');
+const { presses } = require('./presses.js');
 const { cases } = require('./cases.js');
-const { plays, link, pace, sizes, copies, single } = require('./ways.js');
+const { plays, link, beside, pace, sizes, copies, single } = require('./ways.js');
 
 // All checks in one browser: its name with its version, how many different sessions it played, and how many lines they have.
 async function checked(command, { made, p11, terminal, examples, casesFile }) {
@@ -29,7 +31,8 @@ async function checked(command, { made, p11, terminal, examples, casesFile }) {
   };
   try {
     await run(plays, await run(evening));
-    for (const next of [boots, words, badFiles, keyboard, names, looks, pace, sizes, copies, link, lacking]) await run(next);
+    for (const next of [boots, presses, words, badFiles, keyboard, names, looks, glass, pace, sizes, copies]) await run(next);
+    for (const next of [link, beside, tabs, list, full, policy, lacking]) await run(next);
     const told = await run(cases);
     await run(single);
     await page.goTo(url);

@@ -21,14 +21,17 @@ class Session {
 
   // A run of so many turns is `step N` in the record; what was refused isn't in it.
   note(line) {
-    for (; this.steps > 0; this.steps -= Math.min(this.steps, MOST_TURNS)) this.record.push(`step ${Math.min(this.steps, MOST_TURNS)}`);
-    if (line !== undefined) this.record.push(line);
+    this.record.push(...this.lastSteps(), line);
+    this.steps = 0;
   }
 
-  recordText() {
-    this.note();
-    return this.record.map((line) => line + '\n').join('');
+  lastSteps() {
+    const lines = [];
+    for (let left = this.steps; left > 0; left -= MOST_TURNS) lines.push(`step ${Math.min(left, MOST_TURNS)}`);
+    return lines;
   }
+
+  recordText() { return [...this.record, ...this.lastSteps()].map((line) => line + '\n').join(''); }
 
   // What a line shows that changes nothing (`device`, `changed 0`); it isn't in the record.
   peek(line) { return textOf(this.p11.line(line)); }

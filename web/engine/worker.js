@@ -15,6 +15,7 @@ class Engine {
   constructor(post) {
     this.post = post;
     this.session = null;
+    this.opened = 0;           // how many machines were asked for
     this.isLost = false;       // whether the module has trapped under this machine
     this.kwords = 28;
     this.slice = 20000;        // turns of the next slice
@@ -59,7 +60,6 @@ class Engine {
   }
 
   go() {
-    // there is no session while another one opens
     if (this.isLost || !this.session || (!this.session.run && !this.playOn())) return;
     if (!this.session.run) { this.wake(); return; }
     const now = performance.now();
@@ -187,17 +187,22 @@ function tapeOf(session, line, answer) {
 
 // What can be called. Each takes its arguments as an object.
 const CALLS = {
+  // The machine that is there ends at once, and stays until the new one takes its place in one step: between two awaits anything
+  // else may be asked. Of two that are asked for at a time the last is made.
   async open(engine, { module, kwords }) {
-    engine.session = null;
+    const number = ++engine.opened;
+    if (engine.session) CALLS.halt(engine);
+    engine.scriptDone?.();
+    engine.scriptDone = null;
     engine.compiled ??= await WebAssembly.compile(module);
     // A module that has trapped isn't used again: each machine gets an instance of its own.
     const instance = await WebAssembly.instantiate(engine.compiled, {});
+    if (number !== engine.opened) return;
     engine.session = new Session(new P11(instance.exports, kwords, 1024));
     engine.isLost = false;
     engine.session.put('/dev/null', new Uint8Array(0));
     engine.sent = { lines: 0, steps: 0, turns: 0 };
     engine.at.rate = 0;
-    engine.scriptDone = null;
     engine.isQuiet = false;
     engine.lit();
   },

@@ -3,8 +3,6 @@
 
 const $ = (selector) => document.querySelector(selector);
 const ENGINE = ['engine/calls.js', 'engine/session.js', 'engine/worker.js'];
-const NO_MEMORY64 = 'This browser has no WebAssembly with 64-bit memory, which the machine needs. Firefox 134, Chromium 133 and Chrome 133 have '
-  + 'it, and later ones: open the page in one of those.';
 
 class App {
   constructor() {
@@ -23,19 +21,32 @@ class App {
 
   note(text) { $('#note').textContent = text; }
 
-  // Something to choose from, until it is closed.
-  offer(text, choices) {
-    const box = $('#offer');
-    const close = () => { box.hidden = true; };
-    box.replaceChildren(text, ...[...choices, ['Close', () => {}]].map(([label, act]) => {
+  // Something to choose from, until it is closed, or another offer takes its place.
+  offer(text, choices, otherwise = () => {}, no = 'Close') {
+    this.offered?.close();
+    const box = $('#offer'), offered = { close: () => { if (close()) otherwise(); } };
+    const close = () => {
+      if (this.offered !== offered) return false;
+      this.offered = null;
+      box.hidden = true;
+      return true;
+    };
+    this.offered = offered;
+    box.replaceChildren(text, ...[...choices, [no, otherwise]].map(([label, act]) => {
       const button = document.createElement('button');
       button.textContent = label;
       button.onclick = () => { close(); act(); };
       return button;
     }).flatMap((button) => [' ', button]));
     box.hidden = false;
-    return { close };
+    return offered;
   }
+
+  // A question: whether the answer was this one.
+  ask(text, yes) { return new Promise((done) => { this.offer(text, [[yes, () => done(true)]], () => done(false), 'No'); }); }
+
+  // The names of the files that ship with the page.
+  ships() { return this.boots.flatMap((it) => [it.script, ...it.files]); }
 
   focus() { $('#keys').focus({ preventScroll: true }); }
 
@@ -43,12 +54,16 @@ class App {
     listen(this);
     this.controls();
     this.paint();
-    if (!Link.isSupported()) { this.say(NO_MEMORY64 + '\n'); this.note(NO_MEMORY64); return; }
     const [module, boots, store, ...sources] = await Promise.all([
       Shelf.bytes('p11.wasm'), Shelf.text('boots.json'), Store.open(), ...ENGINE.map((name) => Shelf.text(name))]);
     Object.assign(this, { module, boots: JSON.parse(boots), store, sources });
-    store.onrefused = (why) => this.note(`The browser keeps nothing of this session (${why}); its record can be downloaded.`);
-    if (store.refused) store.onrefused(store.refused);
+    store.onrefused = (why) => {
+      $('#refused').hidden = why === '';
+      $('#refused').textContent = `The browser keeps nothing more of this session (${why}); its record can be downloaded.`;
+    };
+    store.onrefused(store.refused);
+    store.onlost = () => this.sessions.leave('(The session goes on in another tab; here is a new machine.)');
+    this.kept = new KeptList($('#kept'), this);
     this.connect();
     this.showBoots();
     await this.begin();
@@ -69,7 +84,7 @@ class App {
     const halt = () => this.console.halt(), run = () => this.console.begin();
     const say = (text) => this.note(text), pick = (drive) => this.pick(drive);
     this.panel ??= new Panel($('#panel'), { command, halt, run });
-    this.drives ??= new Drives($('#drives'), { command, say, pick });
+    this.drives ??= new Drives($('#drives'), { command, say, pick, halt, run });
     this.panel.link = link;
     this.drives.link = link;
     link.on('typed', ({ bytes }) => this.typed(bytes));
@@ -82,12 +97,21 @@ class App {
 
   // What the address asks for, what was kept, or a new machine.
   async begin() {
-    const wanted = new URLSearchParams(location.search).get('boot'), kept = wanted ? null : await this.store.kept();
-    if (kept && kept.session.turns + kept.lines.length > 0) { await this.sessions.resume(kept); return; }
-    if (kept) this.sessions.kwords = kept.session.kwords;
+    const asked = new URLSearchParams(location.search);
+    const [boot, pack, script] = ['boot', 'pack', 'script'].map((name) => asked.get(name));
+    const sessions = await this.store.list(), last = boot ?? pack ?? script ? undefined : sessions.find(({ turns, count }) => turns > 0 || count !== 0);
+    if (last && await this.sessions.reopen(last.id)) return;
+    if (sessions.length > 0) this.sessions.kwords = sessions[0].kwords;
     this.say('p11: a PDP-11/40. Type help, drop a file,\nor boot something by a button above.\n');
     await this.sessions.fresh();
-    if (wanted) await this.sessions.boot(wanted);
+    if (boot) await this.sessions.boot(boot);
+    if (pack) await this.sessions.beside('pack', pack);
+    if (script) await this.sessions.beside('script', script);
+    if (last) {
+      this.offer('The last session is open in another tab; this tab has a machine of its own.', [
+        ['Take it over', () => this.sessions.reopen(last.id, true)],
+      ]);
+    }
   }
 
   typed(bytes) {
@@ -134,21 +158,15 @@ class App {
 
   controls() {
     $('#fresh').onclick = () => this.sessions.fresh(+this.memory.value);
-    $('#before').onclick = () => this.sessions.before();
     $('#hertz').onchange = ({ target }) => this.setClock(+target.value);
     $('#pace').onchange = ({ target }) => this.setPace(+target.value);
     $('#kind').onchange = ({ target }) => { this.screen.isVt52 = target.value === '52'; };
     $('#load').onclick = () => this.pick();
     $('#record').onclick = async () => downloadRecord('session.p11', await this.link.ask('record'));
-    $('#forget').onclick = async () => {
-      await this.store.forget();
-      await this.sessions.fresh();
-      this.note('All that this browser kept of sessions is forgotten.');
-    };
+    $('#forget').onclick = () => this.kept.forgetAll();
     $('#theme').onclick = () => setFace(nextFace());
     setFace(keptFace());
     $('#proved').textContent = globalThis.P11_PROVED;
-    $('#checked').textContent = globalThis.P11_CHECKED;
   }
 
   paint() {
@@ -172,5 +190,5 @@ function setFace(face) {
   try { if (face) localStorage.setItem('face', face); } catch { /* the browser keeps nothing: then the face is not kept */ }
 }
 
-const app = new App();
-app.open().catch((error) => app.note(`The page can't open: ${error.message}.`));
+globalThis.app = new App();
+if (hasMemory64) app.open().catch((error) => app.note(`The page can't open: ${error.message}.`));

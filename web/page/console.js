@@ -110,7 +110,7 @@ class Console {
 
   async attempt(line) {
     const [name, first] = wordsOf(line), verb = verbNamed(name)?.verb;
-    if (['Quit', 'Help', 'Talk', 'Do'].includes(verb) && misfitOf(line)) { this.answered(line, '? 13 BadLine\n'); return; }
+    if (['Quit', 'Talk', 'Do'].includes(verb) && misfitOf(line)) { this.answered(line, '? 13 BadLine\n'); return; }
     if (verb === 'Quit') this.say('Close the page to leave: it keeps the session, and goes on with it when it is opened again.\n');
     else if (verb === 'Help') this.say(helpOn(first));
     else if (verb === 'Do') await this.doFile(first);

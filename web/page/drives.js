@@ -1,6 +1,6 @@
 // The eight drives and the files of the session: what is on each drive, mounting and write-protecting, which sectors
 // have changed, and the pack as a download.
-//   const drives = new Drives(element, { command, pick, say }); drives.link = link; drives.show();
+//   const drives = new Drives(element, { command, pick, say, halt, run }); drives.link = link; drives.show();
 'use strict';
 
 class Drives {
@@ -14,12 +14,13 @@ class Drives {
     const box = document.createElement('li');
     box.dataset.drive = drive;
     box.innerHTML = `<b>${drive}</b><span class="pack"></span><span class="buttons">
-      <button class="mount">Mount…</button><button class="protect" role="switch">Protect</button>
+      <button class="mount">Mount…</button><button class="boot">Boot</button><button class="protect" role="switch">Protect</button>
       <button class="changed"></button><button class="take">Download</button><button class="off">Unmount</button></span>
       <p class="sectors" hidden></p>`;
     const find = (name) => box.querySelector('.' + name);
     for (const [name, label, act] of [
       ['mount', 'Mount a pack on drive', () => this.pick(drive)],
+      ['boot', 'Boot from drive', () => this.boot(drive)],
       ['protect', 'Write-protect drive', () => this.protect(drive)],
       ['changed', 'Changed sectors of drive', () => this.sectors(drive)],
       ['take', 'Download the pack on drive', () => this.take(drive)],
@@ -49,15 +50,13 @@ class Drives {
     row.box.classList.toggle('empty', !state);
     row.find('pack').textContent = state ? `${state.name}, cylinder ${state.cylinder}` : 'empty';
     row.find('mount').hidden = Boolean(state);
-    for (const name of ['protect', 'changed', 'take', 'off']) row.find(name).hidden = !state;
+    for (const name of ['boot', 'protect', 'changed', 'take', 'off']) row.find(name).hidden = !state;
     row.find('protect').setAttribute('aria-checked', String(state?.access === 'ro'));
     row.find('changed').textContent = `${state?.changed ?? 0} changed`;
     if (!state?.changed) row.find('sectors').hidden = true;
   }
 
   firstEmpty() { return Math.max(0, this.state.findIndex((state) => !state)); }
-
-
 
   // Which sectors were written since the pack was mounted, in the order of their numbers, neighbours together.
   async sectors(drive) {
@@ -66,6 +65,17 @@ class Drives {
     if (box.hidden) return;
     const [, , ...numbers] = (await this.link.ask('changed', { drive })).trim().split(' ');
     box.textContent = `Sectors written since it was mounted: ${rangesOf(numbers.map(Number)) || 'none'}`;
+  }
+
+  // The usual loader, toggled in at 1000: it reads the first 256 words of the drive's pack to 0, and goes there.
+  async boot(drive) {
+    await this.halt();
+    const address = (drive << 13).toString(8).padStart(6, '0');
+    for (const line of [`deposit 1000 12737 ${address} 177412 12700 177406 12710 177400 12740 5 105710 100376 5007`, 'start 1000']) {
+      const { answer, reason } = await this.command(line);
+      if (answer !== 'OK\n') { this.say(reason); return; }
+    }
+    await this.run();
   }
 
   // The pack as it is now: `save` writes it to a file of the session, and that is given to the user.

@@ -5,9 +5,14 @@
 function listen(app) {
   const keys = document.querySelector('#keys'), screen = document.querySelector('#screen');
   const isTerminal = (target) => target === keys || target === document.body;
+  const control = document.querySelector('#control');
+  const hold = (isHeld) => control.setAttribute('aria-pressed', String(isHeld)), isHeld = () => control.ariaPressed === 'true';
   const feed = (codes, key) => {
     app.view.follow();
-    app.console.feed(codes, key);
+    const [first, ...more] = codes;
+    if (first === undefined) return;
+    app.console.feed(isHeld() ? [...controlKey(String.fromCharCode(first)) ?? [first], ...more] : codes, key);
+    hold(false);
   };
 
   addEventListener('keydown', (event) => {
@@ -19,10 +24,15 @@ function listen(app) {
     feed(codes, event.key);
   });
 
-  // A keyboard on the glass gives text and no keys; a blank stands in the field, so that it can be taken back.
+  // A keyboard on the glass gives text and no keys, and composed text at its end; a blank stands in the field, so that it can be
+  // taken back.
   keys.value = ' ';
+  keys.addEventListener('compositionend', (event) => {
+    feed(keysOfText(event.data));
+    keys.value = ' ';
+  });
   keys.addEventListener('input', (event) => {
-    if (event.isComposing) return;
+    if (event.isComposing || /Composition/.test(event.inputType)) return;
     if (event.inputType === 'deleteContentBackward') feed([127]);
     else feed(keysOfText(event.data ?? (event.inputType === 'insertLineBreak' ? '\n' : '')));
     keys.value = ' ';
@@ -38,6 +48,11 @@ function listen(app) {
   for (const button of document.querySelectorAll('[data-code]')) {
     button.onclick = () => { feed([+button.dataset.code]); app.focus(); };
   }
+  for (const button of document.querySelectorAll('[data-press]')) {
+    const key = button.dataset.press;
+    button.onclick = () => { feed(keysOf({ key }, app.screen), key); app.focus(); };
+  }
+  control.onclick = () => { hold(!isHeld()); app.focus(); };
   listenForFiles(app);
 }
 

@@ -1,41 +1,75 @@
-// What a file is that was dropped or picked, by its name and its first bytes:
-//   kindOf('diag.ptap', bytes)   'script', 'tape', 'pack', or { refused: 'picture.png is a PNG picture, and no pack, tape or script' }
+// What a file is that was dropped or picked, by what is in it, by its size and by its name:
+//   kindOf('diag.ptap', bytes)   { kind: 'script' }, { kind: 'tape' } or { kind: 'pack' }; { kind: 'pack', doubt: '..' } is to be asked, and
+//                                { refused: 'picture.png is a PNG picture, and no pack, tape or script' } is to be said
 'use strict';
 
-const PACK_BYTES = 2494464;
+const SECTOR_BYTES = 512, PACK_BYTES = 203 * 2 * 12 * SECTOR_BYTES, MOST_LEADER = 512;
+const UNPACK = 'unpack it first', NONE = 'and no pack, tape or script';
 const OTHERS = [
-  ['a gzip archive: unpack it first', [0x1f, 0x8b]], ['a ZIP archive: unpack it first', [0x50, 0x4b, 3, 4]],
-  ['a 7z archive: unpack it first', [0x37, 0x7a, 0xbc, 0xaf]], ['an xz archive: unpack it first', [0xfd, 0x37, 0x7a, 0x58]],
-  ['a bzip2 archive: unpack it first', [0x42, 0x5a, 0x68]], ['a PNG picture, and no pack, tape or script', [0x89, 0x50, 0x4e, 0x47]],
-  ['a JPEG picture, and no pack, tape or script', [0xff, 0xd8, 0xff]], ['a PDF document, and no pack, tape or script', [0x25, 0x50, 0x44, 0x46]],
+  [`a gzip archive: ${UNPACK}`, 0, '\x1f\x8b'], [`a ZIP archive: ${UNPACK}`, 0, 'PK\x03\x04'], [`a 7z archive: ${UNPACK}`, 0, '7z\xbc\xaf'],
+  [`an xz archive: ${UNPACK}`, 0, '\xfd7zX'], [`a bzip2 archive: ${UNPACK}`, 0, 'BZh'], [`a tar archive: ${UNPACK}`, 257, 'ustar'],
+  [`a PNG picture, ${NONE}`, 0, '\x89PNG'], [`a JPEG picture, ${NONE}`, 0, '\xff\xd8\xff'], [`a GIF picture, ${NONE}`, 0, 'GIF8'],
+  [`a PDF document, ${NONE}`, 0, '%PDF'], [`a program for another machine, ${NONE}`, 0, '\x7fELF'],
+  [`a program for another machine, ${NONE}`, 0, 'MZ'], [`a WebAssembly module, ${NONE}`, 0, '\0asm'],
 ];
 const SCRIPT_WORDS = /^(examine|deposit|start|key|tick|clock|switches|set|step|continue|regs|device|mount|unmount|save|changed|load|flush)\b/;
+const TAPE_NAME = /\.(tape|ptap|ptp|pt|bic|lda|abs)$/i, PACK_NAME = /\.(pack|rk05|rk\d?|dsk|img)$/i;
 
 function kindOf(file, bytes) {
-  for (const [what, mark] of OTHERS) {
-    if (mark.every((byte, at) => bytes[at] === byte)) return { refused: `${file} is ${what}` };
-  }
+  const other = OTHERS.find(([, from, mark]) => [...mark].every((c, at) => bytes[from + at] === c.charCodeAt(0)));
+  if (other) return { refused: `${file} is ${other[0]}` };
   if (bytes.length === 0) return { refused: `${file} has no bytes` };
-  if (isScript(file, bytes)) return 'script';
-  if (isTape(file, bytes)) return 'tape';
-  if (bytes.length > PACK_BYTES) {
-    return { refused: `${file} has ${bytes.length.toLocaleString('en')} bytes, and a pack of an RK05 has ${PACK_BYTES.toLocaleString('en')}` };
+  const text = textIn(bytes);
+  if (text !== null) return kindOfText(file, text);
+  if (isTape(file, bytes)) return { kind: 'tape' };
+  const before = straysBefore(bytes);
+  if (before > 0) {
+    const those = before === 1 ? 'first byte' : `first ${before} bytes`;
+    return { refused: `${file} is no paper tape for its ${those}: a tape begins with zeros and 1 0` };
   }
-  return 'pack';
+  return kindOfImage(file, bytes.length);
 }
 
-function isScript(file, bytes) {
-  if (bytes.subarray(0, 4096).some((byte) => byte > 126 || (byte < 32 && byte !== 9 && byte !== 10 && byte !== 13))) return false;
-  if (/\.p11$/i.test(file)) return true;
-  const lines = new TextDecoder().decode(bytes.subarray(0, 4096)).split('\n').map((line) => line.trim());
-  return SCRIPT_WORDS.test(lines.find((line) => line !== '' && !line.startsWith('#')) ?? '');
+// A pack has whole sectors, and the size or the name of one.
+function kindOfImage(file, size) {
+  const told = `${file} has ${size.toLocaleString('en')} bytes`;
+  if (size > PACK_BYTES) return { refused: `${told}, and a pack of an RK05 has ${PACK_BYTES.toLocaleString('en')}` };
+  if (size % SECTOR_BYTES !== 0) return { kind: 'pack', doubt: `${told}, which aren't whole sectors of ${SECTOR_BYTES}` };
+  if (size === PACK_BYTES || PACK_NAME.test(file)) return { kind: 'pack' };
+  return { kind: 'pack', doubt: `${told}, and neither the size nor the name of a pack` };
+}
+
+// The beginning of a text, or null where there are bytes that no text has.
+function textIn(bytes) {
+  const begin = bytes.subarray(0, 4096);
+  if (begin.some((byte) => byte === 127 || (byte < 32 && (byte < 9 || byte > 13)))) return null;
+  try {
+    return new TextDecoder('utf-8', { fatal: true }).decode(begin, { stream: true });
+  } catch {
+    return null;
+  }
+}
+
+function kindOfText(file, text) {
+  const first = text.split('\n').map((line) => line.trim()).find((line) => line !== '' && !line.startsWith('#')) ?? '';
+  if (/\.p11$/i.test(file) || SCRIPT_WORDS.test(first)) return { kind: 'script' };
+  return { refused: `${file} is a text, and no script: "${first.slice(0, 40)}" is no line of the console` };
 }
 
 // A tape is named so, or begins behind its leader as a block does and ends where its bytes do.
 function isTape(file, bytes) {
-  if (/\.(tape|ptap|ptp|pt|bic|lda|abs)$/i.test(file)) return true;
+  if (TAPE_NAME.test(file)) return true;
   const at = bytes.findIndex((byte) => byte !== 0);
   return at >= 0 && bytes[at] === 1 && bytes[at + 1] === 0 && (tapeFault(bytes)?.kind ?? 'Sum') === 'Sum';
+}
+
+// How many bytes stand in front of what would be a tape without them, or 0.
+function straysBefore(bytes) {
+  for (let at = 1; at <= Math.min(MOST_LEADER, bytes.length - 2); at++) {
+    const isTapeFrom = bytes[at] === 1 && bytes[at + 1] === 0 && tapeFault(bytes.subarray(at)) === null;
+    if (isTapeFrom) return bytes.findLastIndex((byte, n) => n < at && byte !== 0) + 1;
+  }
+  return 0;
 }
 
 // A name that a line of the console can have, and that no other file of the session has.

@@ -4,15 +4,6 @@
 'use strict';
 
 class Link {
-  // Whether WebAssembly has memory with 64-bit addresses here: the smallest module that declares one is taken.
-  static isSupported() {
-    try {
-      return WebAssembly.validate(Uint8Array.of(0, 97, 115, 109, 1, 0, 0, 0, 5, 3, 1, 4, 1));
-    } catch {
-      return false;
-    }
-  }
-
   constructor(sources) {
     this.url = URL.createObjectURL(new Blob(sources, { type: 'text/javascript' }));
     this.worker = new Worker(this.url);

@@ -35,7 +35,7 @@ function misfitOf(line) {
   }
   const extra = words[verb.wanted.length + most];
   if (extra === undefined) return null;
-  return `"${shown(extra)}"${misfit.extra}${misfit.form}${formOf(verb)}`;
+  return `"${shown(extra)}"${misfit.extra}${formOf(verb)}`;
 }
 
 const shown = (word) => word.replace(/[^ -~]/g, '?');
@@ -86,10 +86,13 @@ function tapeFault(tape) {
   return null;
 }
 
-// What help says of all words, or of one.
+// What help says of all words, or of one; of a word that isn't one, that it lists those that are.
 function helpOn(name) {
   const verb = verbNamed(name);
-  if (!verb) return WORDS.verbs.map((it) => `${formOf(it).padEnd(WORDS.column)}${it.deed}\n`).join('') + WORDS.list;
+  if (!verb) {
+    const list = WORDS.verbs.map((it) => `${formOf(it).padEnd(WORDS.column)}${it.deed}\n`).join('') + WORDS.list;
+    return name === undefined ? list : WORDS.unknown + list;
+  }
   const { one } = WORDS, more = verb.more ? one.more + WORDS.parts[verb.more[0]] : '';
   const parts = verb.wanted.map((part) => one.part + WORDS.parts[part]).join('') + more;
   return formOf(verb) + one.deed + verb.deed + parts + one.example + verb.example + one.answer + verb.answer + one.end;

@@ -1,21 +1,21 @@
 // A screen of 24 lines of 80 columns with the codes of a VT52 and of a VT100, as far as DEC's editors send them:
 //   const screen = new Screen(); screen.write(bytes); screen.cells[y][x], screen.gone, screen.takeReplies()
 // ESC [ ? 2 l makes it a VT52, ESC < a VT100 again. Where a code means something in one of the two alone, both take it.
-// No DOM: view.js shows it.
+// sequences.js finds the codes. No DOM: view.js shows it.
 'use strict';
 
 const GRAPHICS = '◆▒␉␌␍␊°±␤␋┘┐┌└┼⎺⎻─⎼⎽├┤┴┬│≤≥π≠£·';
-const PLAIN = 0, BOLD = 1, UNDERLINE = 2, REVERSE = 4;
+const PLAIN = 0, BOLD = 1, UNDERLINE = 2, REVERSE = 4, MOST_GONE = 5000;
 
 class Screen {
   constructor(rows = 24, columns = 80) {
-    Object.assign(this, { rows, columns, bells: 0, gone: [], replies: [] });
+    Object.assign(this, { rows, columns, bells: 0, gone: [], replies: [], sequences: new Sequences(this) });
     this.reset();
   }
 
   reset() {
     Object.assign(this, {
-      x: 0, y: 0, top: 0, bottom: this.rows - 1, style: PLAIN, saved: null, state: 'text', parameters: '',
+      x: 0, y: 0, top: 0, bottom: this.rows - 1, style: PLAIN, saved: null,
       isVt52: false, hasOrigin: false, wraps: true, showsCursor: true, cursorKeys: false, sets: ['B', 'B'], shift: 0,
     });
     this.stops = Array.from({ length: this.columns }, (_, x) => x % 8 === 0);
@@ -33,26 +33,7 @@ class Screen {
 
   reply(text) { for (const c of text) this.replies.push(c.charCodeAt(0)); }
 
-  write(bytes) { for (const byte of bytes) this.put(byte & 0o177); }
-
-  put(byte) {
-    if (byte < 32 && byte !== 27) return this.control(byte);
-    if (byte === 127) return undefined;
-    if (byte === 27) { this.state = 'escape'; return undefined; }
-    const c = String.fromCharCode(byte);
-    switch (this.state) {
-      case 'escape': this.state = 'text'; return this.escape(c);
-      case 'row': this.parameters = byte - 32; this.state = 'column'; return undefined;
-      case 'column': this.state = 'text'; return this.go(this.parameters, byte - 32);
-      case 'sequence':
-        if (/[0-9;?]/.test(c)) { this.parameters += c; return undefined; }
-        this.state = 'text';
-        return controlSequence(this, c, this.parameters);
-      case 'set 0': case 'set 1': this.sets[+this.state.at(-1)] = c; this.state = 'text'; return undefined;
-      case 'skip': this.state = 'text'; if (c === '8') this.fill('E'); return undefined;
-      default: return this.show(c);
-    }
-  }
+  write(bytes) { for (const byte of bytes) this.sequences.put(byte & 0o177); }
 
   show(c) {
     const isGraphic = this.sets[this.shift] === '0' && c >= '`' && c <= '~';
@@ -65,7 +46,6 @@ class Screen {
 
   control(byte) {
     switch (byte) {
-      case 5: break;
       case 7: this.bells++; break;
       case 8: this.x = Math.max(0, Math.min(this.x, this.columns - 1) - 1); break;
       case 9: do this.x++; while (this.x < this.columns - 1 && !this.stops[this.x]); this.x = Math.min(this.x, this.columns - 1); break;
@@ -73,7 +53,6 @@ class Screen {
       case 13: this.x = 0; break;
       case 14: this.shift = 1; break;
       case 15: this.shift = 0; break;
-      case 24: case 26: this.state = 'text'; break;
       default:
     }
   }
@@ -81,11 +60,6 @@ class Screen {
   // What follows ESC. D, E, H and M mean one thing to a VT52 and another to a VT100.
   escape(c) {
     switch (c) {
-      case '[': this.state = 'sequence'; this.parameters = ''; break;
-      case 'Y': this.state = 'row'; break;
-      case '(': this.state = 'set 0'; break;
-      case ')': this.state = 'set 1'; break;
-      case '#': this.state = 'skip'; break;
       case 'A': this.go(this.y - 1, this.x); break;
       case 'B': this.go(this.y + 1, this.x); break;
       case 'C': this.go(this.y, this.x + 1); break;
@@ -100,12 +74,23 @@ class Screen {
       case 'K': this.erase(this.y, this.x, this.y, this.columns - 1); break;
       case 'Z': this.reply(this.isVt52 ? '\x1b/Z' : '\x1b[?1;2c'); break;
       case '7': this.saved = { x: this.x, y: this.y, style: this.style, sets: [...this.sets], shift: this.shift }; break;
-      case '8': Object.assign(this, this.saved ?? { x: 0, y: 0, style: PLAIN }); break;
+      case '8': this.restore(this.saved ?? { ...this, x: 0, y: 0, style: PLAIN }); break;
       case 'c': this.reset(); break;
       case '<': this.isVt52 = false; break;
       default:
     }
   }
+
+  restore({ x, y, style, sets, shift }) { Object.assign(this, { x, y, style, sets: [...sets], shift }); }
+
+  // ESC, a character below 0 and another one: a set of characters, or a screen of E.
+  choose(which, c) {
+    if (which === '(') this.sets[0] = c;
+    else if (which === ')') this.sets[1] = c;
+    else if (which === '#' && c === '8') this.fill('E');
+  }
+
+  sequence(letter, numbers, isPrivate) { controlSequence(this, letter, numbers, isPrivate); }
 
   go(y, x) {
     const [first, last] = this.hasOrigin ? [this.top, this.bottom] : [0, this.rows - 1];
@@ -118,23 +103,27 @@ class Screen {
   }
 
   up() {
-    if (this.y === this.top) this.scrollBack(this.top, this.bottom); else if (this.y > 0) this.y--;
+    if (this.y === this.top) this.insert(this.top, this.bottom, 1); else if (this.y > 0) this.y--;
   }
 
-  // Moves the lines of a region one up. What leaves the screen at its top is kept.
+  // Moves the lines of a region one up. What leaves the screen at its top is kept, the last MOST_GONE lines at least.
   scroll(top, bottom) {
     if (top === 0) this.gone.push(this.cells[top]);
-    this.remove(top, bottom);
+    if (this.gone.length === 2 * MOST_GONE) this.gone.splice(0, MOST_GONE);
+    this.remove(top, bottom, 1);
   }
 
-  remove(line, bottom) {
-    this.cells.splice(line, 1);
-    this.cells.splice(bottom, 0, this.blank());
+  // Takes lines out of a region, or puts blank ones in, at most as many as it has.
+  remove(line, bottom, count) {
+    const lines = Math.min(count, bottom + 1 - line);
+    this.cells.splice(line, lines);
+    this.cells.splice(bottom + 1 - lines, 0, ...Array.from({ length: lines }, () => this.blank()));
   }
 
-  scrollBack(top, bottom) {
-    this.cells.splice(bottom, 1);
-    this.cells.splice(top, 0, this.blank());
+  insert(line, bottom, count) {
+    const lines = Math.min(count, bottom + 1 - line);
+    this.cells.splice(bottom + 1 - lines, lines);
+    this.cells.splice(line, 0, ...Array.from({ length: lines }, () => this.blank()));
   }
 
   // Erases from one place to another, both included.
@@ -155,12 +144,12 @@ class Screen {
   }
 }
 
-// ESC [ parameters letter.
-function controlSequence(screen, letter, parameters) {
-  const isPrivate = parameters.startsWith('?');
-  const numbers = parameters.replace('?', '').split(';').map((text) => parseInt(text, 10) || 0);
+// ESC [ numbers letter.
+function controlSequence(screen, letter, numbers, isPrivate) {
+  if (isPrivate && !'hlJK'.includes(letter)) return;
   const [first, second] = numbers, count = first || 1, { x, y, rows, columns } = screen;
-  const line = Math.min(x, columns - 1);
+  const line = Math.min(x, columns - 1), isInRegion = y >= screen.top && y <= screen.bottom;
+  const most = Math.min(count, columns - line), blanks = new Array(most).fill(' ');
   switch (letter) {
     case 'A': screen.go(Math.max(y - count, y >= screen.top ? screen.top : 0), x); break;
     case 'B': screen.go(Math.min(y + count, y <= screen.bottom ? screen.bottom : rows - 1), x); break;
@@ -172,10 +161,10 @@ function controlSequence(screen, letter, parameters) {
       else screen.erase(0, 0, first === 1 ? y : rows - 1, first === 1 ? line : columns - 1);
       break;
     case 'K': screen.erase(y, first === 0 ? line : 0, y, first === 1 ? line : columns - 1); break;
-    case 'L': for (let n = 0; n < count && y <= screen.bottom; n++) screen.scrollBack(y, screen.bottom); break;
-    case 'M': for (let n = 0; n < count && y <= screen.bottom; n++) screen.remove(y, screen.bottom); break;
-    case 'P': for (let n = 0; n < count; n++) { screen.cells[y].splice(line, 1); screen.cells[y].push(' '); } break;
-    case '@': for (let n = 0; n < count; n++) { screen.cells[y].splice(line, 0, ' '); screen.cells[y].pop(); } break;
+    case 'L': if (isInRegion) screen.insert(y, screen.bottom, count); break;
+    case 'M': if (isInRegion) screen.remove(y, screen.bottom, count); break;
+    case 'P': screen.cells[y].splice(line, most); screen.cells[y].push(...blanks); break;
+    case '@': screen.cells[y].splice(columns - most, most); screen.cells[y].splice(line, 0, ...blanks); break;
     case 'c': screen.reply('\x1b[?1;2c'); break;
     case 'g': if (first === 3) screen.stops.fill(false); else screen.stops[line] = false; break;
     case 'm': for (const number of numbers) screen.style = styleAfter(screen.style, number); break;

@@ -1,31 +1,35 @@
 // Machines and their sessions: a new one, one of those that ship with the page, and the one that was kept, which is
 // resumed by playing its record again.
-//   const sessions = new Sessions(app); await sessions.fresh(28); await sessions.boot('monitor'); await sessions.resume(kept);
+//   const sessions = new Sessions(app); await sessions.fresh(28); await sessions.boot('monitor'); await sessions.reopen(7);
 'use strict';
 
 class Sessions {
   constructor(app) {
     this.app = app;
     this.kwords = 28;
+    this.machine = 0;    // how many were asked for; what one is told to do ends where another one is asked for
   }
 
   // A new machine, in the place of the one that is there.
   async fresh(kwords = this.kwords) {
-    await this.open(kwords);
-    this.app.store.begin({ kwords });
+    if (!await this.open(kwords)) return;
+    this.begin({ kwords });
     this.app.console.open();
     this.app.openedIn ??= performance.now();
     await this.app.drives.show();
   }
 
+  // Opens a machine. Gives what tells whether it is still the one that was asked for last, or null where it is none already.
   async open(kwords) {
-    const { app } = this;
+    const { app } = this, number = ++this.machine, isLast = () => number === this.machine;
     this.kwords = kwords;
     app.memory.value = String(kwords);
     await app.link.ask('open', { module: app.module.slice(), kwords });
+    if (!isLast()) return null;
     app.console.reset();
     app.panel.last = '';
     if (app.screen.x > 0) app.say('\n');
+    return isLast;
   }
 
   // One of those in boots.json, on a machine of its own.
@@ -35,18 +39,23 @@ class Sessions {
       app.note(`Nothing of the name "${name}" ships with the page; there are ${app.boots.map((it) => it.name).join(', ')}.`);
       return;
     }
-    await this.open(28);
-    app.store.begin({ kwords: this.kwords });
+    const isLast = await this.open(28);
+    if (!isLast) return;
+    this.begin({ kwords: this.kwords, title: entry.title });
     app.say(`p11> do ${entry.script}\n`);
-    for (const file of entry.files) await this.put(file, await Shelf.bytes(file));
-    const script = await Shelf.text(entry.script);
+    const script = await Shelf.text(entry.script), files = await Promise.all(entry.files.map((file) => Shelf.bytes(file)));
+    for (const [at, file] of entry.files.entries()) if (isLast()) await this.put(file, files[at]);
     // the terminal makes the turns of a last line `continue`
-    await app.console.play(entry.talk ? script.replace(/\ncontinue \d+\n$/, '\n') : script, true);
+    if (isLast()) await app.console.play(entry.talk ? script.replace(/\ncontinue \d+\n$/, '\n') : script, true);
+    if (!isLast()) return;
     app.note(`${entry.about} Type first: ${entry.first}`);
     await app.drives.show();
     if (entry.talk) await app.console.talk(); else app.console.open();
     app.focus();
   }
+
+  // Keeps what is done from now on as a session of its own.
+  begin(facts) { this.app.store.begin(facts).then(() => this.app.kept.show()); }
 
   // Puts a file into the store, and keeps it with the session.
   async put(name, bytes) {
@@ -58,25 +67,37 @@ class Sessions {
   async find(name) {
     const { app } = this, there = await app.link.ask('file', { name });
     if (there) return there;
-    const ships = app.boots.flatMap((it) => [it.script, ...it.files]);
-    if (!ships.includes(name)) return null;
+    if (!app.ships().includes(name)) return null;
     const bytes = await Shelf.bytes(name);
     await this.put(name, bytes);
     return bytes;
   }
 
+  // Opens a kept session, also where another tab has it if that is asked for: whether it could.
+  async reopen(id, isTaken = false) {
+    const { store } = this.app;
+    if (store.session?.id === id) return true;
+    const claim = await store.claimOf(id, isTaken), kept = claim && await store.kept(id);
+    if (!kept) { claim?.free(); return false; }
+    await store.leave();
+    store.hold(claim);
+    await this.resume(kept);
+    await this.app.kept.show();
+    return true;
+  }
+
   // Plays the record of a kept session again: the machine comes to the state that it had.
   async resume(kept) {
     const { app } = this, { session, lines, files } = kept;
-    await this.open(session.kwords);
+    const isLast = await this.open(session.kwords);
+    if (!isLast) return;
     for (const { name, bytes } of files) await app.link.ask('put', { name, bytes });
-    const steps = [];
-    for (let { steps: left } = session; left > 0; left -= 1e8) steps.push(`step ${Math.min(left, 1e8)}`);
     const offer = app.offer(`The session of ${lines.length.toLocaleString('en')} lines goes on: its record is played again.`, [
-      ['Begin with a new machine instead', () => this.abandon()],
+      ['Begin with a new machine instead', () => this.leave()],
     ]);
-    const { typed, turns } = await app.link.ask('play', { text: [...lines, ...steps].join('\n'), isQuiet: true });
+    const { typed, turns } = await app.link.ask('play', { text: recordOf(kept), isQuiet: true });
     offer.close();
+    if (!isLast()) return;
     await app.store.resume(kept);
     for (const bytes of typed) app.screen.write(bytes);
     app.screen.takeReplies();
@@ -89,17 +110,12 @@ class Sessions {
     if (session.isTalking) await app.console.talk(); else app.console.open();
   }
 
-  // Ends the worker that plays a long record, and begins anew; the record stays kept as the session before.
-  async abandon() {
+  // Ends the worker, also while it plays a long record, and begins anew; the session stays kept.
+  async leave(why = '') {
+    await this.app.store.leave();
     this.app.connect();
+    if (why) this.app.say(`\n${why}\n`);
     await this.fresh();
-  }
-
-  // The session before the last: from now on it is the last.
-  async before() {
-    const kept = await this.app.store.kept(1);
-    if (kept) await this.resume(kept);
-    else this.app.note('No session before this one is kept.');
   }
 
   // The module has trapped. What was done is offered as a record, and a new machine takes its place.
@@ -117,23 +133,57 @@ class Sessions {
 
   // -- a file that was dropped or picked, for a drive where one is named
   async take(file, drive) {
-    const { app } = this, bytes = new Uint8Array(await file.arrayBuffer()), kind = kindOf(file.name, bytes);
-    if (kind.refused) { app.note(`${kind.refused}.`); return; }
-    if (kind === 'script') {
-      await app.console.halt();
-      app.say(`\np11> do ${file.name}\n`);
-      await app.console.play(new TextDecoder('latin1').decode(bytes));
-      app.console.open();
-      await app.drives.show();
-      return;
-    }
-    const taken = await app.link.ask('files'), name = nameFor(file.name, (it) => taken.some(([other]) => other === it));
+    const { app } = this, bytes = await contentOf(file);
+    if (!bytes) { app.note(`${file.name} can't be read: of a folder, drop the files that are in it.`); return; }
+    const { kind, doubt, refused } = kindOf(file.name, bytes);
+    if (refused) { app.note(`${refused}.`); return; }
+    if (doubt && !await app.ask(`${doubt}. Is it a pack?`, 'Mount it')) { app.note(`${file.name} is left out.`); return; }
+    await (kind === 'script' ? this.play(file.name, bytes) : this.use(file.name, bytes, kind, drive));
+  }
+
+  async play(name, bytes) {
+    const { app, machine } = this;
+    await app.console.halt();
+    app.say(`\np11> do ${name}\n`);
+    await app.console.play(new TextDecoder('latin1').decode(bytes));
+    if (machine !== this.machine) return;
+    app.console.open();
+    await app.drives.show();
+  }
+
+  // Mounts a pack or loads a tape: whether it was taken.
+  async use(file, bytes, kind, drive) {
+    const { app } = this, taken = await app.link.ask('files'), name = nameFor(file, (it) => taken.some(([other]) => other === it));
     await this.put(name, bytes);
     const to = drive ?? app.drives.firstEmpty();
     const { answer, reason } = await app.console.command(kind === 'tape' ? `load ${name}` : `mount ${to} ${name} rw`);
-    if (reason) app.note(`${file.name}: ${reason}.`);
-    else app.note(kind === 'tape' ? loadedNote(file.name, answer) : `${file.name} is mounted on drive ${to}.`);
+    if (reason) app.note(`${file}: ${reason}.`);
+    else app.note(kind === 'tape' ? loadedNote(file, answer) : `${file} is mounted on drive ${to}.`);
+    return !reason;
   }
+
+  // What the page's address asks for beside the page: a pack, which boots from drive 0, or a script.
+  async beside(kind, name) {
+    const { app } = this, file = name.replace(/.*\//, '');
+    if (!URL.canParse(name, location.href) || new URL(name, location.href).origin !== location.origin) {
+      app.note(`${name} isn't at the place that this page is from.`);
+      return;
+    }
+    const bytes = await Shelf.bytes(name).catch(() => null);
+    if (!bytes) app.note(`${name} isn't there.`);
+    else if (kind === 'script') await this.play(file, bytes);
+    else if (await this.use(file, bytes, kind, 0)) await app.drives.boot(0);
+  }
+}
+
+// The bytes of a file, or null where it has none that can be read, as a folder.
+async function contentOf(file) { return file.arrayBuffer().then((it) => new Uint8Array(it), () => null); }
+
+// The record of a kept session, as ./p11 plays it.
+function recordOf({ session, lines }) {
+  const steps = [];
+  for (let { steps: left } = session; left > 0; left -= 1e8) steps.push(`step ${Math.min(left, 1e8)}`);
+  return [...lines, ...steps].map((line) => line + '\n').join('');
 }
 
 function loadedNote(file, answer) {

@@ -1,10 +1,11 @@
 // What the browser keeps of a session, so that nothing is lost when the page is closed: the lines of its record and the
-// files that were put into it, in IndexedDB. The last sessions are kept.
-//   const store = await Store.open(); store.begin({ kwords: 28 }); store.add(..); await store.last();
-// Where the browser refuses it, store.refused says why and nothing is kept.
+// files that were put into it, in IndexedDB. Other sessions stay kept beside it.
+//   const store = await Store.open(); store.begin({ kwords: 28 }); store.add(..); await store.last; await store.list();
+// Where the browser refuses it, store.refused says why, and nothing more is kept until a session begins that can be.
 'use strict';
 
-const MOST_SESSIONS = 4;
+const MOST_SESSIONS = 20, TABLES = ['sessions', 'lines', 'files'];
+const ofSession = (id) => IDBKeyRange.bound([id], [id, []]);
 
 const wait = (request) => new Promise((done, fail) => {
   request.onsuccess = () => done(request.result);
@@ -31,15 +32,17 @@ class Store {
 
   constructor() {
     this.db = null;
-    this.session = null;      // { id, kwords, steps, turns, isTalking }
+    this.session = null;      // { id, name, begun, used, kwords, steps, turns, count, bytes, isTalking }; count is that of lines
+    this.claim = null;
     this.refused = '';
     this.onrefused = () => {};
+    this.onlost = () => {};
     this.last = Promise.resolve();
   }
 
   refuse(error) {
-    this.db = null;
-    this.refused = String(error?.message ?? error);
+    this.session = null;
+    this.refused = error?.name === 'QuotaExceededError' ? 'its storage is full' : String(error?.message ?? error);
     this.onrefused(this.refused);
   }
 
@@ -53,9 +56,10 @@ class Store {
   async attempt(work) {
     if (!this.db) return undefined;
     try {
-      const all = this.db.transaction(['sessions', 'lines', 'files'], 'readwrite', { durability: 'relaxed' });
+      const all = this.db.transaction(TABLES, 'readwrite', { durability: 'relaxed' });
       const table = (name) => all.objectStore(name);
       const ended = new Promise((done, fail) => { all.oncomplete = done; all.onabort = () => fail(all.error); });
+      ended.catch(() => {});
       const result = await work(table);
       await ended;
       return result;
@@ -65,29 +69,53 @@ class Store {
     }
   }
 
-  // A new session; the oldest goes where there are too many.
+  // A new session. Those that nothing was done in go, and where there are too many the oldest that have no name of their own;
+  // none that a tab has.
   begin(facts) {
-    return this.change(async (table) => {
-      this.session = null;
-      const ids = await wait(table('sessions').getAllKeys());
-      for (const id of ids.slice(0, 1 - MOST_SESSIONS)) this.drop(table, id);
-      const session = { steps: 0, turns: 0, isTalking: false, ...facts };
-      session.id = await wait(table('sessions').add(session));
-      this.session = session;
+    this.last = this.last.then(async () => {
+      this.hold(null);
+      const open = await Claim.all(), now = Date.now();
+      await this.attempt(async (table) => {
+        this.session = null;
+        const all = (await wait(table('sessions').getAll())).filter(({ id }) => !open.has(Claim.name(id)));
+        const isEmpty = ({ turns, count, bytes }) => turns === 0 && count === 0 && bytes === 0;
+        const old = all.filter((it) => !isEmpty(it) && !it.name).toSorted(byUse).slice(MOST_SESSIONS - 1);
+        for (const { id } of [...all.filter(isEmpty), ...old]) this.drop(table, id);
+        const session = { name: '', begun: now, used: now, steps: 0, turns: 0, count: 0, bytes: 0, isTalking: false, ...facts };
+        session.id = await wait(table('sessions').add(session));
+        this.session = session;
+        this.refused = '';
+        this.onrefused('');
+      });
+      if (this.session) this.hold(await this.claimOf(this.session.id));
     });
+    return this.last;
+  }
+
+  // The claim of this tab to a session; null where another one has it.
+  claimOf(id, isTaken = false) { return Claim.of(id, { isTaken, onlost: () => { this.session = null; this.onlost(); } }); }
+
+  hold(claim) {
+    this.claim?.free();
+    this.claim = claim;
   }
 
   drop(table, id) {
     table('sessions').delete(id);
-    for (const name of ['lines', 'files']) table(name).delete(IDBKeyRange.bound([id], [id, []]));
+    for (const name of ['lines', 'files']) table(name).delete(ofSession(id));
   }
 
   // What the record has gained.
   add({ from, lines, steps, turns }) {
+    if (lines.length > 0 && !this.isAsked) {
+      this.isAsked = true;
+      navigator.storage?.persist?.().catch(() => {});
+    }
     return this.change((table) => {
       const { session } = this;
       if (!session) return;
-      Object.assign(session, { steps, turns });
+      Object.assign(session, { steps, turns, used: Date.now(), count: from + lines.length });
+      session.bytes += lines.reduce((sum, line) => sum + line.length + 1, 0);
       if (lines.length > 0) table('lines').put({ id: session.id, from, lines });
       table('sessions').put(session);
     });
@@ -101,38 +129,53 @@ class Store {
 
   file(name, bytes) {
     return this.change((table) => {
-      if (this.session) table('files').put({ id: this.session.id, name, bytes });
+      const { session } = this;
+      if (!session) return;
+      session.bytes += bytes.length;
+      table('files').put({ id: session.id, name, bytes });
+      table('sessions').put(session);
     });
   }
 
-  // The last session, or the one before it: what it was, its lines and its files; null where there is none.
-  async kept(back = 0) {
+  // The sessions that are kept, the one that was used last in front.
+  async list() { return (await this.change((table) => wait(table('sessions').getAll())) ?? []).toSorted(byUse); }
+
+  // A kept session: what it was, its lines and its files; null where there is none of the number.
+  async kept(id) {
     return (await this.change(async (table) => {
-      const sessions = await wait(table('sessions').getAll()), session = sessions.at(-1 - back);
+      const session = await wait(table('sessions').get(id));
       if (!session) return null;
-      const range = IDBKeyRange.bound([session.id], [session.id, []]);
-      const parts = await wait(table('lines').getAll(range)), files = await wait(table('files').getAll(range));
+      const parts = await wait(table('lines').getAll(ofSession(id))), files = await wait(table('files').getAll(ofSession(id)));
       return { session, lines: parts.flatMap((part) => part.lines), files };
     })) ?? null;
   }
 
-  // Goes on with a kept session: it is the last from now on.
-  resume({ session, lines, files }) {
-    return this.change(async (table) => {
-      this.drop(table, session.id);
-      const { id, ...facts } = session;
-      this.session = { ...facts };
-      this.session.id = await wait(table('sessions').add(facts));
-      table('lines').put({ id: this.session.id, from: 0, lines });
-      for (const file of files) table('files').put({ ...file, id: this.session.id });
+  // Goes on with a kept session, whose lines become one row.
+  resume({ session, lines }) {
+    return this.change((table) => {
+      this.session = Object.assign(session, { used: Date.now(), count: lines.length, bytes: session.bytes ?? 0 });
+      table('lines').delete(ofSession(session.id));
+      table('lines').put({ id: session.id, from: 0, lines });
+      table('sessions').put(session);
     });
   }
 
-  // Forgets all that is kept.
-  forget() {
-    return this.change((table) => {
-      this.session = null;
-      for (const name of ['sessions', 'lines', 'files']) table(name).clear();
+  // Keeps nothing of what follows, until a session begins or is resumed.
+  leave() {
+    return this.change(() => { this.session = null; });
+  }
+
+  rename(id, name) {
+    return this.change(async (table) => {
+      const session = await wait(table('sessions').get(id));
+      if (this.session?.id === id) this.session.name = name;
+      if (session) table('sessions').put({ ...session, name });
     });
   }
+
+  forget(id) {
+    return this.change((table) => this.drop(table, id));
+  }
 }
+
+const byUse = (one, other) => (other.used ?? 0) - (one.used ?? 0) || other.id - one.id;

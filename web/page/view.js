@@ -14,9 +14,13 @@ class View {
     this.unspoken = '';
     this.lines = 0;
     this.top = 0;
+    this.width = element.clientWidth;
     element.addEventListener('scroll', () => {
-      const { scrollTop, clientHeight, scrollHeight } = element;
-      if (scrollTop + clientHeight > scrollHeight - 20) this.isFollowing = true;
+      const { scrollTop, clientHeight, scrollHeight, clientWidth } = element;
+      if (clientWidth !== this.width) {   // the page is laid out anew, and nobody has scrolled
+        this.width = clientWidth;
+        if (this.isFollowing) this.toEnd();
+      } else if (scrollTop + clientHeight > scrollHeight - 20) this.isFollowing = true;
       else if (scrollTop < this.top - 1) this.isFollowing = false;
       this.top = scrollTop;
     });

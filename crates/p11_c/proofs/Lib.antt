@@ -1,4 +1,4 @@
--- Lemmas of the C library: machines behind C's pointers, rows of files, and what calls leave.
+-- Lemmas of the C library: machines and consoles behind C's pointers, rows of files, and what calls leave.
 pub mod AsBox
 pub mod CallLemmas
 pub mod HeldLemmas
@@ -6,5 +6,7 @@ pub mod Loosened
 pub mod ReadLemmas
 pub mod RowLemmas
 pub mod RunLemmas
+pub mod SeatAsBox
+pub mod SeatLemmas
 pub mod StoreLemmas
 pub mod TypedLemmas

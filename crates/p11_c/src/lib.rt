@@ -1,5 +1,5 @@
-//! A PDP-11/40 for programs in C, Python and Rust: whole sessions of an operator's console, from bytes to bytes, and
-//! a machine that is kept from line to line.
+//! A PDP-11/40 for programs in C, Python and Rust: whole sessions of an operator's console, from bytes to bytes, a machine
+//! that is kept from line to line, and the console of a dialogue, which is given events.
 #![tactic(auto)]
 
 ghost use Rattle.std.specs.Prelude.{◌≡◌, ⊤, List, ℕ, None, nat_lt};
@@ -13,13 +13,19 @@ ghost use Rattle.p11_c.specs.Statuses.{number_of_status};
 ghost use Rattle.p11_c.specs.Typed.{typed_in};
 ghost use Rattle.p11_c.specs.declared.status.Status.{Status};
 
+mod console;
+mod console_handle;
 mod desk;
+mod handing;
 mod handle;
+mod host_words;
 mod loose;
 mod registers;
 mod rows;
 mod run;
 mod script;
+mod seat;
+mod seat_slot;
 mod session;
 mod slot;
 mod status;

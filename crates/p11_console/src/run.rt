@@ -75,20 +75,13 @@ pub(crate) fn run_of(turns: u32, until_idle: bool) -> Run
 }
 
 /// A talk with the machine.
-#[tactic(auto, unfolding(crate::specs::Runs::talk_of))]
+#[tactic(auto, unfolding(crate::specs::Runs::talk_of, crate::specs::Runs::run_of))]
 pub(crate) fn talk_of() -> Run
     ensures { result ≡ talk_of }
 {
     Run {
         is_talk: true,
-        until_idle: true,
-        left: MOST_TURNS,
-        made: 0,
-        total: 0,
-        is_idle: false,
-        stuck: 0,
-        is_fresh: true,
-        is_quiet: false,
+        ..run_of(MOST_TURNS, true)
     }
 }
 

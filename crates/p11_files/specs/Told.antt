@@ -1,5 +1,5 @@
 -- How the logic stores the calls of a store.
-use Rattle.std.specs.Prelude.{ℕ, Bool, List, refl}
+use Rattle.std.specs.Prelude.{◌≡◌, ℕ, Bool, true, List, [], ◌∷◌, ◌++◌, refl}
 use Rattle.std.specs.Coded.{Coded, code_by, coded×, coded_bool, coded_list, coded_ℕ}
 use Rattle.p11_store.specs.Store.{StoreCall}
 
@@ -10,3 +10,8 @@ call_code = code_by (Bool × (List ℕ × Bool)) (coded× coded_bool (coded× (c
 
 abbrev pub calls_code : Coded (List StoreCall)
 calls_code = coded_list call_code
+
+-- one more put is told, of this name
+abbrev pub TellsPut : List ℕ → Bool → List StoreCall → List StoreCall → Type 0
+TellsPut name is_refused old new =
+    new ≡ old ++ (record { is_put = true; name = name; is_refused = is_refused }) ∷ []

@@ -1,27 +1,31 @@
 // The store of files that the programs have: those of the system, whose names are paths from the working folder on.
-ghost use Rattle.std.specs.Prelude.{◌≡◌, ◌+◌, ◌<◌, [], ◌∷◌, ◌++◌, true, false, Some, None};
+ghost use Rattle.p11_files.specs.Told.{TellsPut};
+ghost use Rattle.std.specs.Prelude.{◌≡◌, ◌+◌, ◌<◌, [], ◌∷◌, ◌++◌, true, false, Some, None, is_ok, IfErr, IsSome, OnOk};
 
+use crate::beneath::whole_folder;
+use crate::file_fault::FileFault;
+use crate::reading::{is_file, read_file};
 use crate::replacing::replace_file;
-use crate::told::{ToldCall, ToldCalls};
+use crate::told::{ToldCall, ToldCalls, ToldEnds};
 use p11_store::{Refusals, Store, StoreError};
 use std::alloc::Allocator;
-use std::fs::File;
-use std::io;
-use std::io::{ErrorKind, Read};
 use std::sync::ledger::{Blank, Ledger};
 
-/// Reads in one fetch at most, the one that finds the file's end among them.
-const MOST_READS: u32 = 4096;
-
-/// Bytes of one read at most.
-const READ_BYTES: usize = 4096;
-
-/// The files of the system. None of them is open between two calls. Contracts know its calls, and nothing of its files.
+/// The files of the system. None of them is open between two calls. Contracts know its calls, how each put of the system
+/// ended, and nothing of its files.
 #[derive(Drop)]
 pub struct FileStore<'a, L: Ledger> {
     rt: &'a HostRuntime,
     refusals: Refusals<L>,
     calls: ToldCalls,
+    /// How each put of the system ended.
+    puts: ToldEnds,
+    /// Why the last call failed, where it did.
+    fault: Option<FileFault>,
+    /// Whether a fetch takes any file, and waits for a pipe or a terminal.
+    takes_any: bool,
+    /// The folder, with a slash behind it, whose files alone may be had.
+    folder: Option<String>,
 }
 
 impl<'a, L: Ledger> FileStore<'a, L> {
@@ -37,11 +41,54 @@ impl<'a, L: Ledger> FileStore<'a, L> {
             rt,
             refusals: Refusals::new(blank),
             calls: ToldCalls::new(),
+            puts: ToldEnds::new(),
+            fault: None,
+            takes_any: false,
+            folder: None,
         }
+    }
+
+    /// From then on names are those of files below a folder, and no others may be had.
+    ///
+    /// # Errors
+    ///
+    /// The folder isn't there, or is none; then nothing has changed.
+    pub fn confine(&mut self, folder: &str) -> Result<(), FileFault>
+        ensures count { self.new.refusals ≡ self.old.refusals }
+        ensures calls { self.new.calls.made ≡ self.old.calls.made }
+        ensures ok { OnOk result (IsSome self.new.folder) }
+    {
+        let whole = whole_folder(self.rt, folder)?;
+        self.folder = Some(whole);
+        Ok(())
+    }
+
+    /// Says whether a fetch takes any file, as one that the user named: also one that isn't below the folder, and a pipe or a
+    /// terminal, for whose bytes it waits. At first it doesn't.
+    pub fn take_any(&mut self, takes_any: bool)
+        ensures count { self.new.refusals ≡ self.old.refusals }
+        ensures calls { self.new.calls.made ≡ self.old.calls.made }
+        ensures folder { self.new.folder ≡ self.old.folder }
+        ensures any { self.new.takes_any ≡ takes_any }
+    {
+        self.takes_any = takes_any;
+    }
+
+    /// Why the last call failed, by what the system said of it; `None` where it didn't fail.
+    pub fn fault(&self) -> Option<FileFault>
+        ensures { result ≡ self.now.fault }
+    {
+        self.fault
+    }
+
+    /// Whether a file of that name is there.
+    pub fn has(&self, name: &[u8]) -> bool {
+        is_file(self.rt, text_of(&self.folder), name)
     }
 
     /// Tells a call that isn't refused.
     fn tell(&mut self, is_put: bool, name: &[u8])
+        ensures puts { self.new.puts.made ≡ self.old.puts.made }
         ensures count { self.new.refusals ≡ self.old.refusals }
         ensures calls { self.new.calls.made ≡ self.old.calls.made
             ++ record { is_put = is_put; name = name.now; is_refused = false } ∷ [] }
@@ -55,6 +102,7 @@ impl<'a, L: Ledger> FileStore<'a, L> {
 
     /// Refuses a call.
     fn refuse(&mut self, is_put: bool, name: &[u8]) -> StoreError
+        ensures puts { self.new.puts.made ≡ self.old.puts.made }
         ensures error { result ≡ StoreError.Refused }
         ensures count { self.new.refusals ≡ self.old.refusals + 1 }
         ensures calls { self.new.calls.made ≡ self.old.calls.made
@@ -68,27 +116,64 @@ impl<'a, L: Ledger> FileStore<'a, L> {
         });
         StoreError::Refused
     }
-}
 
-impl<'a, L: Ledger> Store for FileStore<'a, L> {
-    ghost state = { λ s. record { files = None; refusals = s.refusals; calls = Some s.calls.made } };
-
-    fn fetch<A: Allocator>(&mut self, alloc: A, name: &[u8]) -> Result<Vec<u8, A>, StoreError> {
-        match read_file(self.rt, alloc, name) {
+    /// Reads a file of the system, and keeps why it can't be read.
+    fn read<A: Allocator>(&mut self, alloc: A, name: &[u8]) -> Result<Vec<u8, A>, FileFault>
+        ensures count { self.new.refusals ≡ self.old.refusals }
+        ensures calls { self.new.calls.made ≡ self.old.calls.made }
+        ensures ok { OnOk result (self.new.fault ≡ None) }
+        ensures err { IfErr result (λ fault. self.new.fault ≡ Some fault) }
+    {
+        let takes_any = self.takes_any;
+        let folder = if takes_any {
+            None
+        } else {
+            text_of(&self.folder)
+        };
+        match read_file(self.rt, alloc, folder, name, takes_any) {
             Ok(bytes) => {
-                self.tell(false, name);
+                self.fault = None;
                 Ok(bytes)
             }
-            Err(StoreError::NoMemory) => {
-                self.tell(false, name);
-                Err(StoreError::NoMemory)
+            Err(fault) => {
+                self.fault = Some(fault);
+                Err(fault)
             }
-            Err(StoreError::Refused) => Err(self.refuse(false, name)),
         }
     }
 
-    fn put(&mut self, name: &[u8], bytes: &[u8]) -> Result<(), StoreError> {
-        match replace_file(self.rt, name, bytes) {
+    /// Leaves bytes in a file of the system, and keeps why it can't be written.
+    fn write(&mut self, name: &[u8], bytes: &[u8]) -> Result<(), FileFault>
+        ensures count { self.new.refusals ≡ self.old.refusals }
+        ensures calls { self.new.calls.made ≡ self.old.calls.made }
+        ensures puts { self.new.puts.made ≡ self.old.puts.made ++ is_ok result ∷ [] }
+        ensures ok { OnOk result (self.new.fault ≡ None) }
+        ensures err { IfErr result (λ fault. self.new.fault ≡ Some fault) }
+    {
+        match replace_file(self.rt, text_of(&self.folder), name, bytes) {
+            Ok(()) => {
+                self.puts = self.puts.then(&true);
+                self.fault = None;
+                Ok(())
+            }
+            Err(fault) => {
+                self.puts = self.puts.then(&false);
+                self.fault = Some(fault);
+                Err(fault)
+            }
+        }
+    }
+
+    /// Leaves bytes under a name: this says OK just where the system's put went well, and tells that call.
+    fn replace(&mut self, name: &[u8], bytes: &[u8]) -> Result<(), StoreError>
+        ensures puts { self.new.puts.made ≡ self.old.puts.made ++ is_ok result ∷ [] }
+        ensures ok { OnOk result (TellsPut name.now false self.old.calls.made self.new.calls.made
+            × (self.new.refusals ≡ self.old.refusals)) }
+        ensures err { IfErr result (λ error. (error ≡ StoreError.Refused)
+            × TellsPut name.now true self.old.calls.made self.new.calls.made
+            × (self.new.refusals ≡ self.old.refusals + 1)) }
+    {
+        match self.write(name, bytes) {
             Ok(()) => {
                 self.tell(true, name);
                 Ok(())
@@ -98,44 +183,32 @@ impl<'a, L: Ledger> Store for FileStore<'a, L> {
     }
 }
 
-/// What a fault of the system is to a store.
-fn fault(error: &io::Error) -> StoreError {
-    match error.kind() {
-        ErrorKind::OutOfMemory => StoreError::NoMemory,
-        _ => StoreError::Refused,
+/// The text of a folder's path.
+fn text_of(folder: &Option<String>) -> Option<&str> {
+    match folder {
+        Some(folder) => Some(folder.as_str()),
+        None => None,
     }
 }
 
-/// The bytes of a file, where its end is found in time.
-fn read_file<A: Allocator>(
-    rt: &HostRuntime,
-    alloc: A,
-    name: &[u8],
-) -> Result<Vec<u8, A>, StoreError> {
-    let Ok(path) = str::from_utf8(name) else {
-        return Err(StoreError::Refused);
-    };
-    let mut file = match File::open(rt, path) {
-        Ok(file) => file,
-        Err(error) => return Err(fault(&error)),
-    };
-    let mut bytes = Vec::new(alloc);
-    for _ in 0..MOST_READS {
-        if !read_more(&mut file, &mut bytes)? {
-            return Ok(bytes);
+impl<'a, L: Ledger> Store for FileStore<'a, L> {
+    ghost state = { λ s. record { files = None; refusals = s.refusals; calls = Some s.calls.made } };
+
+    fn fetch<A: Allocator>(&mut self, alloc: A, name: &[u8]) -> Result<Vec<u8, A>, StoreError> {
+        match self.read(alloc, name) {
+            Ok(bytes) => {
+                self.tell(false, name);
+                Ok(bytes)
+            }
+            Err(FileFault::NoMemory) => {
+                self.tell(false, name);
+                Err(StoreError::NoMemory)
+            }
+            Err(_) => Err(self.refuse(false, name)),
         }
     }
-    Err(StoreError::Refused)
-}
 
-/// Adds what one read gives; whether it gave anything.
-fn read_more<A: Allocator>(file: &mut File, bytes: &mut Vec<u8, A>) -> Result<bool, StoreError> {
-    let mut buffer = [0u8; READ_BYTES];
-    match file.read(&mut buffer) {
-        Ok(count) => match bytes.extend_from_slice(&buffer[..count]) {
-            Ok(()) => Ok(count > 0),
-            Err(_) => Err(StoreError::NoMemory),
-        },
-        Err(error) => Err(fault(&error)),
+    fn put(&mut self, name: &[u8], bytes: &[u8]) -> Result<(), StoreError> {
+        self.replace(name, bytes)
     }
 }

@@ -20,7 +20,7 @@ use Rattle.p11_panel.specs.Commands.{CommandStep}
 use Rattle.p11_panel.specs.Session.{SessionState, with_store, Obeys, OnFile, Keeps, fault_of}
 use Rattle.p11_store.specs.Store.{StoreState, Has, KeepsOthers, Puts, asked, with_call}
 use Rattle.p11_records.specs.Again.{RunsAreMadeAgain, RecordsDoAgain, IsRepeatable, Repeatable, Alike, Obey}
-use Rattle.p11_dialogue.specs.Deeds.{Deed, Tried, Ran, Asked, Said, Took, Escaped, Began, Typed, LetGo, Unrecorded, AsksFor, Happens, Happen, ended, is_of_run, recorded, recorded_of, run_recorded, typed_by, typed_in}
+use Rattle.p11_records.specs.Deeds.{Deed, Tried, Ran, Asked, AsksFor, Happens, Happen, ended, is_of_run, recorded, recorded_of, run_recorded, typed_by, typed_in}
 use Rattle.p11_records.proofs.OutcomeLemmas.{Outcome, comes_to, failed, is_turns, no_other, no_stop}
 use Rattle.p11_records.proofs.RunLemmas.{Made, made_by, refused_run}
 
@@ -220,21 +220,11 @@ line_again {A} law line (answers.Refused fault) s s' t r alike h = none A s s' t
 line_again law line (answers.Stop typed reason turns pc) s s' t r alike h = run law line typed reason turns pc s s' t r alike h
 line_again law line answer s s' t r alike h = one line answer s' t (repeats line answer s s' t (λ fault e. cc) alike h)
 
-nothing_again : (A : Type 0) (s s' t : SessionState) → s' ≡ s → Alike s t → Again A [] [] s' t
-nothing_again A s s' t same alike = none A s s' t (ap (λ (x : SessionState). x.machine) same, ap (λ (x : SessionState). x.store.files) same) alike
-
 deed_again : {A : Type 0} → RunsAreMadeAgain A → (deed : Deed A) (s s' t : SessionState) → Repeatable deed → Alike s t → Happens deed s s' → Again A (recorded_of deed) (typed_by deed) s' t
 unfolding Happens recorded_of typed_by
 deed_again law (Tried line answer) s s' t r alike h = line_again law line answer s s' t r alike h
 deed_again law (Ran line answer) s s' t r alike h = line_again law line answer s s' t r alike h.0
 deed_again {A} law (Asked name bytes) s s' t r alike h = none A s s' t (asked_for name bytes s s' h.0 h.1) alike
-deed_again {A} law (Said text) s s' t r alike h = nothing_again A s s' t h alike
-deed_again {A} law (Took kind text) s s' t r alike h = nothing_again A s s' t h alike
-deed_again {A} law Escaped s s' t r alike h = nothing_again A s s' t h alike
-deed_again {A} law (Began text) s s' t r alike h = nothing_again A s s' t h alike
-deed_again {A} law (Typed text) s s' t r alike h = nothing_again A s s' t h alike
-deed_again {A} law (LetGo reason) s s' t r alike h = nothing_again A s s' t h alike
-deed_again {A} law Unrecorded s s' t r alike h = nothing_again A s s' t h alike
 
 obey_more : {A : Type 0} (first others : List (Line A × Answer A)) (s s' s'' : SessionState) → Obey first s s' → Obey others s' s'' → Obey (first ++ others) s s''
 unfolding Obey

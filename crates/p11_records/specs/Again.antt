@@ -13,7 +13,7 @@ use Rattle.p11_cpu.specs.State.{State}
 use Rattle.p11_panel.specs.Calls.Runs.{IsRun, stops_idling}
 use Rattle.p11_panel.specs.Script.{script_lines}
 use Rattle.p11_panel.specs.Session.{SessionState, Obeys, Asks, LineDoes, LinesRun}
-use Rattle.p11_dialogue.specs.Deeds.{Deed, Tried, Ran, Happen, ended, is_of_run, recorded_of, typed_by, typed_in}
+use Rattle.p11_records.specs.Deeds.{Deed, Tried, Ran, Happen, ended, is_of_run, recorded_of, typed_by, typed_in}
 
 -- A run that made some turns is made again by STEP with just these, whatever line asked for it: it comes to the same
 -- state, and types the same.

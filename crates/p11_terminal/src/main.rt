@@ -1,31 +1,36 @@
 //! The program `terminal`: a PDP-11/40 for a person, who sits at its console and at its terminal.
 //!
 //! `terminal [OPTION ..] [SCRIPT]` does the lines of the script, and then those that come on standard input; with `--batch`
-//! those of the script alone. What is done can be recorded as a script for `p11`.
+//! those of the script alone. What is done can be recorded as a script for `p11`. The console is `p11_console`'s; here
+//! stand what it is given and what becomes of what it gives.
 #![tactic(auto)]
 
 ghost use Rattle.std.specs.Prelude.{◌≡◌, ◌<◌};
 
 mod ending;
+mod files;
+mod folder;
+mod host;
+mod journal;
 mod past;
 mod remark;
 mod settings;
-mod system;
+mod window;
 
-use crate::ending::{Cause, Torn, ending};
-use crate::past::Past;
-use crate::remark::remark;
+use crate::ending::{Cause, ending};
+use crate::files::Files;
+use crate::host::Host;
+use crate::journal::Journal;
+use crate::past::open_past;
 use crate::settings::{Launch, settings};
-use crate::system::{Output, RecordFile, SystemHost, SystemKeyboard};
-use p11_dialogue::{Parting, Person, Record, Station, Wish, converse};
+use p11_console::{Console, Manner, Settings};
 use p11_files::FileStore;
 use p11_panel::Panel;
-use std::alloc::Allocator;
-use std::fs::{File, OpenOptions};
-use std::io::{ErrorKind, Write};
+use std::io::IsTerminal;
 use std::marker::Brand;
 use std::process::ExitCode;
 use std::sync::ledger::{Blank, Ledger};
+use std::time::Duration;
 use std::{env, io};
 
 fn main(rt: HostRuntime) -> ExitCode {
@@ -67,91 +72,70 @@ fn words(rt: &HostRuntime) -> Result<Vec<String>, Cause> {
     }
 }
 
-/// Makes the record's file, which may not be there yet.
-fn record(rt: &HostRuntime, launch: &Launch<'_>) -> Result<RecordFile, Cause> {
-    let Some(path) = launch.record else {
-        return Ok(RecordFile::None);
-    };
-    match OpenOptions::new()
-        .write(true)
-        .create_new(true)
-        .open(rt, path)
-    {
-        Ok(file) => begin_record(rt, file),
-        Err(error) if error.kind() == ErrorKind::AlreadyExists => Err(Cause::RecordExists),
-        Err(_) => Err(Cause::NoRecord),
-    }
-}
-
-/// Writes the remark with which a record begins.
-fn begin_record(rt: &HostRuntime, file: File) -> Result<RecordFile, Cause> {
-    let Ok(text) = remark(rt) else {
-        return Err(Cause::NoMemory);
-    };
-    let mut file = file;
-    match file.write_all(text.as_slice()) {
-        Ok(()) => Ok(RecordFile::File(file)),
-        Err(_) => Err(Cause::Torn(Torn::Record)),
-    }
-}
-
 /// Holds the dialogue, with the files of the system, whose refusals are counted from a blank on; how it ended.
 fn hold<L: Ledger>(rt: &HostRuntime, launch: &Launch<'_>, blank: Blank) -> Result<Cause, Cause>
     requires name { blank.name ≡ L.name }
     requires parts { blank.parts ≡ L.parts }
     requires some { 0 < blank.parts }
 {
+    let mut store = FileStore::<L>::new(rt, blank);
+    if let Some(folder) = launch.files {
+        if store.confine(folder).is_err() {
+            return Err(Cause::NoFolder);
+        }
+    }
+    let input = rt.stdin();
+    let manner = manner(launch.is_batch, input.is_terminal());
+    let mut console = console(rt, launch, manner)?;
+    let past = match launch.history {
+        Some(path) => Some(open_past(rt, path, &mut console)?),
+        None => None,
+    };
+    let mut host = Host {
+        rt,
+        console,
+        slice: launch.slice,
+        input,
+        is_typed: manner == Manner::Typed,
+        has_read_fault: false,
+        screen: rt.stdout(),
+        errors: rt.stderr(),
+        files: Files::new(rt, store, launch.script),
+        journal: Journal::open(rt, launch)?,
+        top: launch.files,
+        past,
+        size: env::var(rt, "P11_SIZE").ok(),
+        returns: 0,
+        looked: Duration::ZERO,
+    };
+    host.hold()
+}
+
+/// Where lines come from.
+fn manner(is_batch: bool, is_terminal: bool) -> Manner {
+    if is_batch {
+        Manner::Batch
+    } else if is_terminal {
+        Manner::Typed
+    } else {
+        Manner::Given
+    }
+}
+
+/// A console over a new machine, which begins with the script.
+fn console(rt: &HostRuntime, launch: &Launch<'_>, manner: Manner) -> Result<Console, Cause> {
     let Ok(panel) = Panel::new(rt.alloc(), launch.config) else {
         return Err(Cause::NoMemory);
     };
-    let past = Past::open(rt, launch.history)?;
-    let journal = Record::new(record(rt, launch)?);
-    let screen = if launch.is_batch {
-        Output::Nothing
-    } else {
-        Output::Standard(rt.stdout())
-    };
-    let station = Station {
-        panel,
-        store: FileStore::<L>::new(rt, blank),
-        screen,
-        journal,
-    };
-    let person = Person {
-        keyboard: SystemKeyboard::new(rt),
-        console: Output::Standard(rt.stdout()),
-        errors: Output::Errors(rt.stderr()),
-        host: SystemHost::new(rt, past),
-    };
-    let wish = Wish {
-        script: launch.script.map(|name| name.as_bytes()),
-        is_talk: launch.is_talk,
-        slice: launch.slice,
-        is_batch: launch.is_batch,
+    let settings = Settings {
+        manner,
         is_strict: launch.is_strict,
         is_saveless: launch.is_saveless,
+        is_talk: launch.is_talk,
     };
-    Ok(cause_of(converse(rt.alloc(), station, person, &wish), launch))
-}
-
-/// How the program ends, by what is left of the dialogue.
-fn cause_of<A: Allocator, S: Drop>(
-    parting: Parting<A, S, Output, Record<RecordFile>, Output>,
-    launch: &Launch<'_>,
-) -> Cause {
-    let (is_kept, _) = parting.station.journal.finish();
-    if parting.is_journal_torn || !is_kept {
-        return Cause::Torn(Torn::Record);
+    let mut console = Console::new(rt.alloc(), panel, settings);
+    if let Some(name) = launch.script {
+        console.open(rt.alloc(), name.as_bytes())?;
     }
-    if parting.is_screen_torn || parting.is_console_torn {
-        return Cause::Torn(Torn::Screen);
-    }
-    if parting.has_read_fault {
-        return Cause::Reading;
-    }
-    let is_failed = parting.lacks_script || launch.is_strict && parting.has_refused;
-    if launch.is_batch && is_failed {
-        return Cause::Script;
-    }
-    Cause::Done
+    Ok(console)
 }

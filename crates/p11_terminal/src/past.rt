@@ -1,55 +1,39 @@
 // Lines of earlier dialogues, in a file of the owner's.
 use crate::ending::Cause;
-use std::alloc::Global;
+use p11_console::Console;
 use std::fs;
 use std::fs::{File, OpenOptions};
-use std::io::{ErrorKind, Write};
+use std::io::ErrorKind;
 
-/// The lines of earlier dialogues, and the file to which further ones go, where the owner names one.
-#[derive(Drop)]
-pub(crate) struct Past {
-    lines: Vec<u8>,
-    file: Option<File>,
+/// The most bytes of a line that is typed.
+const MOST_BYTES: usize = 4096;
+
+/// Gives a console the lines that the file has, the oldest first: the file, for further ones. It is made where it isn't there.
+pub(crate) fn open_past(
+    rt: &HostRuntime,
+    path: &str,
+    console: &mut Console,
+) -> Result<File, Cause> {
+    match fs::read(rt, path) {
+        Ok(lines) => {
+            for line in lines.as_slice().split(|byte| *byte == b'\n') {
+                if is_typed(line) {
+                    console.remember(rt.alloc(), line)?;
+                }
+            }
+        }
+        Err(error) if error.kind() == ErrorKind::NotFound => {}
+        Err(_) => return Err(Cause::NoHistory),
+    }
+    match OpenOptions::new().append(true).create(true).open(rt, path) {
+        Ok(file) => Ok(file),
+        Err(_) => Err(Cause::NoHistory),
+    }
 }
 
-impl Past {
-    /// What the file has, which is made where it isn't there.
-    pub(crate) fn open(rt: &HostRuntime, path: Option<&str>) -> Result<Self, Cause> {
-        let Some(path) = path else {
-            return Ok(Past {
-                lines: Vec::new(rt.alloc()),
-                file: None,
-            });
-        };
-        let lines = match fs::read(rt, path) {
-            Ok(lines) => lines,
-            Err(error) if error.kind() == ErrorKind::NotFound => Vec::new(rt.alloc()),
-            Err(_) => return Err(Cause::NoHistory),
-        };
-        match OpenOptions::new().append(true).create(true).open(rt, path) {
-            Ok(file) => Ok(Past {
-                lines,
-                file: Some(file),
-            }),
-            Err(_) => Err(Cause::NoHistory),
-        }
-    }
-
-    /// The lines, each with LF, the oldest first.
-    pub(crate) fn lines(&self) -> &[u8] {
-        self.lines.as_slice()
-    }
-
-    /// Writes a line to the file. Where that fails the line is kept for this dialogue alone.
-    pub(crate) fn keep(&mut self, alloc: Global, line: &[u8]) {
-        let Some(file) = &mut self.file else {
-            return;
-        };
-        let Ok(mut text) = Vec::from_slice(alloc, line) else {
-            return;
-        };
-        if text.push(b'\n').is_ok() {
-            let _ = file.write_all(text.as_slice());
-        }
-    }
+/// Whether a line has something, and keys can give it.
+fn is_typed(line: &[u8]) -> bool {
+    !line.is_empty()
+        && line.len() <= MOST_BYTES
+        && line.iter().all(|byte| b' ' <= *byte && *byte <= b'~')
 }

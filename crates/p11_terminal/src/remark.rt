@@ -1,13 +1,14 @@
 // The remark with which a record begins.
-use crate::settings::VERSION;
+use crate::settings::{Launch, VERSION};
 use std::alloc::AllocError;
 use std::env;
 
 /// The most bytes of what the launcher says.
 const MOST_BYTES: usize = 1000;
 
-/// A remark that says which program makes the record, with LF: what the launcher says of it, or the version alone.
-pub(crate) fn remark(rt: &HostRuntime) -> Result<Vec<u8>, AllocError> {
+/// A remark, with LF, that says which program makes the record, by what the launcher says or the version alone, and with which
+/// options `p11` makes a machine of the same size.
+pub(crate) fn remark(rt: &HostRuntime, launch: &Launch<'_>) -> Result<Vec<u8>, AllocError> {
     let mut text = Vec::from_slice(rt.alloc(), b"# ")?;
     match env::var(rt, "P11_ABOUT") {
         Ok(about) => {
@@ -21,6 +22,9 @@ pub(crate) fn remark(rt: &HostRuntime) -> Result<Vec<u8>, AllocError> {
             text.extend_from_slice(VERSION.as_bytes())?;
         }
     }
-    text.push(b'\n')?;
+    let memory = launch.memory;
+    let lines = launch.lines;
+    let size = format!(in rt.alloc(); "; --memory {memory} --lines {lines}\n")?;
+    text.extend_from_slice(size.as_bytes())?;
     Ok(text)
 }

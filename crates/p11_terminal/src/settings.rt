@@ -10,12 +10,18 @@ use std::alloc::{AllocError, Global};
 #[derive(Drop)]
 pub(crate) struct Launch<'a> {
     pub(crate) config: Config,
+    /// Thousands (1,024) of words of memory.
+    pub(crate) memory: u32,
+    /// Decoded words that are kept.
+    pub(crate) lines: u32,
     /// Turns of a slice.
     pub(crate) slice: u32,
     /// The record's file.
     pub(crate) record: Option<&'a str>,
     /// The history's file.
     pub(crate) history: Option<&'a str>,
+    /// The folder below which files are looked up.
+    pub(crate) files: Option<&'a str>,
     /// Whether the machine's terminal comes behind the script.
     pub(crate) is_talk: bool,
     /// Whether the script is all.
@@ -46,6 +52,8 @@ enum Value {
     Number(&'static str),
     /// The name of a file.
     File,
+    /// The name of a folder.
+    Folder,
 }
 
 /// An argument that an option asks for, or that may not stand beside it.
@@ -64,7 +72,7 @@ struct Choice {
 }
 
 /// The options, in the order in which the help shows them.
-static CHOICES: [Choice; 9] = [
+static CHOICES: [Choice; 10] = [
     Choice {
         name: "memory",
         value: Value::Number("K"),
@@ -94,6 +102,12 @@ static CHOICES: [Choice; 9] = [
         value: Value::File,
         beside: Beside::Any,
         help: "A file that keeps the lines which are typed, for later dialogues",
+    },
+    Choice {
+        name: "files",
+        value: Value::Folder,
+        beside: Beside::Any,
+        help: "Look up the files of lines below FOLDER, and no others",
     },
     Choice {
         name: "no-save",
@@ -131,6 +145,7 @@ impl Choice {
                 .value_name(letter)
                 .value_parser(ValueParser::unsigned(0, 4_294_967_295)),
             Value::File => arg.value_name("FILE"),
+            Value::Folder => arg.value_name("FOLDER"),
         };
         match self.beside {
             Beside::Any => Ok(arg),
@@ -203,9 +218,12 @@ pub(crate) fn settings<'a>(alloc: Global, words: &'a [String]) -> Result<Launch<
     };
     Ok(Launch {
         config,
+        memory,
+        lines,
         slice,
         record: matches.get_str("record"),
         history: matches.get_str("history"),
+        files: matches.get_str("files"),
         is_talk: matches.get_flag("talk"),
         is_batch: matches.get_flag("batch"),
         is_strict: matches.get_flag("strict"),

@@ -1,21 +1,26 @@
 //! What a person does at the terminal, written down with what comes of it.
 //!
 //! A file whose name ends in `keys.txt` has keys that are typed into the console's line (see `Rows`), one whose name ends in
-//! `phrases.txt` lines that a person types (see `Phrases`), and any other one has dialogues (see `Talks`): what the machine
-//! types, what the console says and what is recorded are what is written down; the record, played as a script on a new machine,
-//! types the same and leaves the same. The same is tried where a read, a write, a call of the store or memory fails.
+//! `phrases.txt` lines that a person types (see `Phrases`), and any other one has dialogues (see `Talks`): what comes to a
+//! console, what it shows, records and asks its host for. The record, played as a script on a new machine, types the same and
+//! leaves the same. The same is tried with other slices, keys and outputs in pieces of a byte, each call of the store refused,
+//! and memory missing at each step.
 mod breaking;
+mod came;
 mod dialogues;
 mod escapes;
 mod glass;
+mod hoard;
 mod holding;
-mod keys;
+mod host;
 mod phrases;
 mod records;
 mod rows;
+mod sitting;
 mod spelling;
 mod talk;
 mod tally;
+mod trouble;
 mod typist;
 mod vocabulary;
 
@@ -68,16 +73,13 @@ fn report_tally(rt: &HostRuntime, path: &str, tally: &Tally, rows: &str) -> io::
     Ok(failed == 0)
 }
 
-/// Holds the dialogues of a file's text. The first that goes another way ends it.
+/// Holds the dialogues of a file's text.
 fn hold_text(alloc: Global, text: &str) -> Result<Tally, Wrong> {
     let mut talks = Talks::new(alloc);
     for line in text.lines() {
         talks.take(alloc, line)?;
     }
-    talks.finish(alloc)?;
-    let mut tally = Tally::new(alloc);
-    tally.count = talks.count();
-    Ok(tally)
+    talks.finish(alloc)
 }
 
 /// Types the keys of a file's text.

@@ -49,6 +49,17 @@ impl<L: Ledger> Shelf<L> {
         self.calls
     }
 
+    /// The names that begin so.
+    pub(crate) fn names(&self, alloc: Global, front: &[u8]) -> Result<Vec<&[u8]>, AllocError> {
+        let mut names = Vec::new(alloc);
+        for file in self.files.as_slice() {
+            if file.name.as_slice().starts_with(front) {
+                names.push(file.name.as_slice())?;
+            }
+        }
+        Ok(names)
+    }
+
     /// The bytes under a name.
     pub(crate) fn bytes_under(&self, name: &[u8]) -> Option<&[u8]> {
         bytes_under(self.files.as_slice(), name)

@@ -1,145 +1,161 @@
-// Dialogues in whose way something is: a writer, the keyboard, the store, or memory.
-use crate::data::{StoredFile, Wrong, bad_line};
-use crate::talks::holding::{CALM, Came, Trouble, gives_the_same, hold};
-use crate::talks::records::new_panel;
+// A dialogue that is held again and again, with something else in its way each time.
+use crate::data::{StoredFile, Wrong, same};
+use crate::talks::came::Came;
+use crate::talks::holding::hold;
+use crate::talks::records::{gives_the_same, new_panel};
 use crate::talks::talk::Talk;
+use crate::talks::trouble::{CALM, Memory, Trouble, Typing};
 use linked_list_allocator::LocalHeap;
 use std::alloc::Global;
 
-/// Heaps are tried of so many bytes and each greater multiple, from one that is too small for a machine to one with
-/// ample memory for all but the image of a pack.
-const PIECE: usize = 64;
+/// The bytes of a heap on which memory may be missing: the images of a few packs.
+const HEAP: usize = 16_777_216;
 
-const FEWEST: usize = 128;
+/// Turns of a step at most, where they don't matter, in place of 1,000.
+const OTHER_SLICE: u32 = 7;
 
-const MOST: usize = 320;
-
-/// Holds a dialogue again and again, with something else in its way each time, and compares it with the whole one.
-pub(crate) fn break_all(
-    alloc: Global,
-    talk: &Talk,
-    files: &[StoredFile],
-    whole: &Came,
-) -> Result<(), Wrong> {
-    for fails in [false, true] {
-        let calm = Trouble { fails, ..CALM };
-        for screen in 0..whole.screen.len() {
-            tear(alloc, (talk, files), whole, Trouble { screen, ..calm })?;
-        }
-        for record in 0..whole.record.len() {
-            tear(alloc, (talk, files), whole, Trouble { record, ..calm })?;
-        }
-        for said in 0..whole.said.len() {
-            tear(alloc, (talk, files), whole, Trouble { said, ..calm })?;
-        }
-    }
-    for read in 1..talk.reads.len().saturating_add(1) {
-        tear(alloc, (talk, files), whole, Trouble { read, ..CALM })?;
-    }
-    for call in 1..whole.calls.saturating_add(1) {
-        let panel = new_panel(alloc, alloc)?;
-        let came = hold(alloc, alloc, panel, (talk, files), Trouble { call, ..CALM })?;
-        gives_the_same(alloc, files, talk.name.as_str(), &came)?;
-    }
-    let mut is_refused = false;
-    for pieces in FEWEST..MOST {
-        is_refused |= starve(alloc, (talk, files), whole, pieces.saturating_mul(PIECE))?;
-    }
-    if is_refused {
-        Ok(())
+/// Holds a dialogue, and compares it with what is written down; then with something else in its way each time, and compares
+/// it with that: how often memory was wanted.
+pub(crate) fn hold_all(alloc: Global, talk: &Talk, files: &[StoredFile]) -> Result<u32, Wrong> {
+    let all = All { alloc, talk, files };
+    let slice = if talk.slice == 0 {
+        CALM.slice
     } else {
-        Err(bad_line(alloc, "no heap was too small"))
-    }
-}
-
-/// A writer or the keyboard fails: what came is a front of the whole dialogue, and the record gives the same, where
-/// both writers of the machine took all.
-fn tear(
-    alloc: Global,
-    (talk, files): (&Talk, &[StoredFile]),
-    whole: &Came,
-    trouble: Trouble,
-) -> Result<(), Wrong> {
-    let place = format!(in alloc; "{}: {trouble:?}", talk.name)?;
-    let panel = new_panel(alloc, alloc)?;
-    let came = hold(alloc, alloc, panel, (talk, files), trouble)?;
-    let faults = [
-        trouble.screen < usize::MAX,
-        trouble.record < usize::MAX,
-        trouble.said < usize::MAX,
-        trouble.read > 0,
-    ];
-    if !are_fronts(whole, &came, trouble) || came.faults != faults {
-        return Err(bad_line(alloc, place.as_str()));
-    }
-    if came.faults[0] || came.faults[1] {
-        return Ok(());
-    }
-    gives_the_same(alloc, files, place.as_str(), &came)
-}
-
-/// Whether each text is a front of the whole dialogue's, up to the byte that was not taken. After a read that failed the
-/// console says what it says at an end.
-fn are_fronts(whole: &Came, came: &Came, trouble: Trouble) -> bool {
-    let is_ended = trouble.read > 0;
-    is_record_front(whole.record.as_str(), came.record.as_str(), trouble.record)
-        && is_front(
-            whole.screen.as_slice(),
-            came.screen.as_slice(),
-            trouble.screen,
-        )
-        && (is_ended || is_front(whole.said.as_slice(), came.said.as_slice(), trouble.said))
-}
-
-/// Whether a record is a front of the whole one; its last line may be a run that was cut short.
-fn is_record_front(whole: &str, came: &str, room: usize) -> bool {
-    if is_front(whole.as_bytes(), came.as_bytes(), room) {
-        return true;
-    }
-    let count = came.lines().count();
-    let mut others = whole.lines();
-    for (at, line) in came.lines().enumerate() {
-        let Some(other) = others.next() else {
-            return false;
-        };
-        if line != other {
-            return at.saturating_add(1) == count && is_shorter_run(line, other);
-        }
-    }
-    true
-}
-
-/// Whether both lines are runs, and the first one has fewer turns.
-fn is_shorter_run(line: &str, other: &str) -> bool {
-    match (turns_of(line), turns_of(other)) {
-        (Some(made), Some(all)) => made < all,
-        _ => false,
-    }
-}
-
-/// The turns of a run's line.
-fn turns_of(line: &str) -> Option<u64> {
-    line.strip_prefix("step ")?.parse::<u64>().ok()
-}
-
-/// Whether a writer with this room has a front of the whole text, up to the room where that is less.
-fn is_front(whole: &[u8], came: &[u8], room: usize) -> bool {
-    whole.starts_with(came) && (room >= whole.len() || came.len() == room)
-}
-
-/// Memory has so many bytes: whatever is refused, the record gives the same. Whether something was.
-fn starve(
-    alloc: Global,
-    (talk, files): (&Talk, &[StoredFile]),
-    whole: &Came,
-    size: usize,
-) -> Result<bool, Wrong> {
-    let heap = LocalHeap::new(alloc, size)?;
-    let Ok(panel) = new_panel(alloc, &heap) else {
-        return Ok(false);
+        talk.slice
     };
-    let came = hold(alloc, &heap, panel, (talk, files), CALM)?;
-    let place = format!(in alloc; "{}: a heap of {size} bytes", talk.name)?;
-    gives_the_same(alloc, files, place.as_str(), &came)?;
-    Ok(came.said.as_slice() != whole.said.as_slice())
+    let calm = Trouble {
+        slice,
+        call: talk.refused,
+        ..CALM
+    };
+    let closed = all.hold(Trouble {
+        is_looked: false,
+        ..calm
+    })?;
+    let has_past = !talk.sight.past.is_empty();
+    let written = talk.sight.text(alloc, has_past)?;
+    let found = closed.sight.text(alloc, has_past)?;
+    same(alloc, talk.name.as_str(), written.as_str(), found.as_str())?;
+    all.gives_the_same(calm, &closed)?;
+    if talk.heap > 0 || talk.is_once {
+        return Ok(0);
+    }
+    let whole = all.hold(calm)?;
+    let (record, record_again) = (closed.record_text(alloc)?, whole.record_text(alloc)?);
+    same(
+        alloc,
+        talk.name.as_str(),
+        record.as_str(),
+        record_again.as_str(),
+    )?;
+    all.gives_the_same(calm, &whole)?;
+    all.break_calmly(calm, &whole)?;
+    all.refuse_calls(calm, &whole)?;
+    all.starve(calm, &whole)
+}
+
+/// A dialogue that is held with something in its way.
+#[derive(Clone, Copy)]
+struct All<'a> {
+    alloc: Global,
+    talk: &'a Talk,
+    files: &'a [StoredFile],
+}
+
+impl All<'_> {
+    /// Holds it.
+    fn hold(&self, trouble: Trouble) -> Result<Came, Wrong> {
+        let (alloc, what) = (self.alloc, (self.talk, self.files));
+        if self.talk.heap > 0 {
+            let heap = LocalHeap::new(alloc, self.talk.heap as usize)?;
+            let panel = new_panel(alloc, &heap)?;
+            return hold(alloc, &heap, panel, what, trouble);
+        }
+        if trouble.memory == Memory::Ample {
+            let panel = new_panel(alloc, alloc)?;
+            return hold(alloc, alloc, panel, what, trouble);
+        }
+        let heap = LocalHeap::new(alloc, HEAP)?;
+        let panel = new_panel(alloc, &heap)?;
+        hold(alloc, &heap, panel, what, trouble)
+    }
+
+    /// What it came to is what it came to with nothing in its way.
+    fn is_whole(&self, trouble: Trouble, whole: &Came, came: &Came) -> Result<(), Wrong> {
+        let place = format!(in self.alloc; "{}: {trouble:?}", self.talk.name)?;
+        let (expected, found) = (whole.whole(self.alloc)?, came.whole(self.alloc)?);
+        same(
+            self.alloc,
+            place.as_str(),
+            expected.as_str(),
+            found.as_str(),
+        )
+    }
+
+    /// Its record gives the same.
+    fn gives_the_same(&self, trouble: Trouble, came: &Came) -> Result<(), Wrong> {
+        let place = format!(in self.alloc; "{}: {trouble:?}", self.talk.name)?;
+        let what = (self.talk, self.files);
+        gives_the_same(self.alloc, what, place.as_str(), came)
+    }
+
+    /// Other slices, outputs that are taken byte by byte, and keys that come byte by byte.
+    fn break_calmly(&self, calm: Trouble, whole: &Came) -> Result<(), Wrong> {
+        let taken = Trouble { taken: 1, ..calm };
+        self.is_whole(taken, whole, &self.hold(taken)?)?;
+        let bytes = Trouble {
+            typing: Typing::Bytes,
+            ..calm
+        };
+        self.is_whole(bytes, whole, &self.hold(bytes)?)?;
+        if self.talk.slice > 0 {
+            return Ok(());
+        }
+        let slice = Trouble {
+            slice: OTHER_SLICE,
+            ..calm
+        };
+        self.is_whole(slice, whole, &self.hold(slice)?)?;
+        let single = Trouble {
+            typing: Typing::Single,
+            ..calm
+        };
+        self.gives_the_same(single, &self.hold(single)?)
+    }
+
+    /// Each call of the store is refused.
+    fn refuse_calls(&self, calm: Trouble, whole: &Came) -> Result<(), Wrong> {
+        for call in 1..whole.calls.saturating_add(1) {
+            let refused = Trouble { call, ..calm };
+            self.gives_the_same(refused, &self.hold(refused)?)?;
+        }
+        Ok(())
+    }
+
+    /// Memory is missing at each step. Where a step wants it nothing has changed, and with memory all goes as ever; where it
+    /// does something without, a line may be refused or a text left out, and the record gives the same. How often it was wanted.
+    fn starve(&self, calm: Trouble, whole: &Came) -> Result<u32, Wrong> {
+        let mut wants = 0u32;
+        for step in 1..whole.steps.saturating_add(1) {
+            for memory in [Memory::Once(step), Memory::Slowly(step)] {
+                wants = wants.saturating_add(self.starve_by(calm, whole, memory)?);
+            }
+        }
+        for memory in [Memory::Keys, Memory::Answers, Memory::Always] {
+            wants = wants.saturating_add(self.starve_by(calm, whole, memory)?);
+        }
+        Ok(wants)
+    }
+
+    /// Memory is missing so: how often it was wanted.
+    fn starve_by(&self, calm: Trouble, whole: &Came, memory: Memory) -> Result<u32, Wrong> {
+        let trouble = Trouble { memory, ..calm };
+        let came = self.hold(trouble)?;
+        if came.is_poor || memory == Memory::Always {
+            self.gives_the_same(trouble, &came)?;
+        } else {
+            self.is_whole(trouble, whole, &came)?;
+        }
+        Ok(came.wants)
+    }
 }

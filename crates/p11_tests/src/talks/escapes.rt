@@ -1,6 +1,6 @@
 // The bytes of keys, as data writes them.
-use crate::data::{Wrong, bad_line, text_of};
-use p11_panel::{Bytes, Line, line_of, parse_line};
+use crate::data::{Wrong, bad_line};
+use p11_panel::{Line, parse_line};
 use std::alloc::Global;
 
 /// The bytes that a text gives in the escapes of `key`; a space stands for itself.
@@ -16,14 +16,5 @@ pub(crate) fn bytes_of(alloc: Global, text: &str) -> Result<Vec<u8>, Wrong> {
     match parse_line(alloc, line.as_str().as_bytes()) {
         Ok(Line::Key { text }) => Ok(text.into_vec()),
         _ => Err(bad_line(alloc, line.as_str())),
-    }
-}
-
-/// The text that gives bytes, as a line of keys.
-pub(crate) fn line_of_keys(alloc: Global, bytes: &[u8]) -> Result<String, Wrong> {
-    let text = Bytes::from_vec(Vec::from_slice(alloc, bytes)?);
-    match line_of(alloc, &Line::Key { text }) {
-        Ok(line) => text_of(alloc, line),
-        Err(_) => Err(Wrong::NoMemory),
     }
 }

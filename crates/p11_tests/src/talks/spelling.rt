@@ -1,5 +1,5 @@
 // Bytes by the names of keys, by escapes, and so many times over.
-use crate::data::{Wrong, bad_line, number};
+use crate::data::{Wrong, bad_line, number, text_of};
 use crate::talks::escapes::bytes_of;
 use std::alloc::Global;
 
@@ -32,6 +32,26 @@ pub(crate) fn spelled(alloc: Global, text: &str) -> Result<Vec<u8>, Wrong> {
         bytes.extend_from_slice(piece.as_slice())?;
     }
     Ok(bytes)
+}
+
+/// Bytes as data shows them: a graphic character or a space as itself, LF as the end of a line, and all else by its code.
+pub(crate) fn shown(alloc: Global, bytes: &[u8]) -> Result<String, Wrong> {
+    let mut text = Vec::new(alloc);
+    for byte in bytes {
+        match *byte {
+            b'\n' | b' '..=b'[' | b']'..=b'~' => text.push(*byte)?,
+            code => {
+                let digits = [
+                    b'0' + (code >> 6),
+                    b'0' + (code >> 3 & 7),
+                    b'0' + (code & 7),
+                ];
+                text.push(b'\\')?;
+                text.extend_from_slice(&digits)?;
+            }
+        }
+    }
+    text_of(alloc, text)
 }
 
 /// The bytes of a text behind an opening brace.

@@ -1,38 +1,50 @@
 // A dialogue that is written down.
-use p11_dialogue::Wish;
+use crate::talks::came::Sight;
+use p11_console::{Manner, Settings};
 use std::alloc::Global;
 
-/// A dialogue that is written down: how it is held, what the keyboard gives, and what is to come.
+/// What comes to a console from outside.
+#[derive(Drop)]
+pub(crate) enum Event {
+    /// What one read of the keyboard gives; without a byte: nothing for now.
+    Keys(Vec<u8>),
+    /// The line clock ticks.
+    Tick,
+    /// The line is to be shown again.
+    Redraw,
+}
+
+/// An event, and when it comes.
+#[derive(Drop)]
+pub(crate) struct Coming {
+    /// Behind so many steps since the last one; `None`: once the console wants keys.
+    pub(crate) behind: Option<u32>,
+    pub(crate) event: Event,
+}
+
+/// A dialogue that is written down: how it is held, what comes to it, and what is to come of it.
 #[derive(Drop)]
 pub(crate) struct Talk {
     pub(crate) name: String,
     /// The name of the script that is done first; none where it is empty.
     pub(crate) script: String,
-    /// Whether a person sits at the keyboard.
-    pub(crate) is_terminal: bool,
-    /// Whether the machine's terminal comes before the console.
-    pub(crate) is_talk: bool,
-    /// Turns between two looks at the keyboard.
+    pub(crate) settings: Settings,
+    /// Whether the keyboard ends with its last read, and not only once the console wants more.
+    pub(crate) is_ended: bool,
+    /// Whether it is held once, with nothing in its way.
+    pub(crate) is_once: bool,
+    /// Turns of a step at most; 0: it doesn't matter.
     pub(crate) slice: u32,
-    /// What the keyboard gives, read by read.
-    pub(crate) reads: Vec<Vec<u8>>,
-    /// What the machine types.
-    pub(crate) screen: Vec<u8>,
-    /// What the console says.
-    pub(crate) said: String,
-    /// What is said of a script that nobody watches.
-    pub(crate) errors: String,
-    /// The lines of the record.
-    pub(crate) record: String,
-    /// Whether the script is all, and whether it ends at its first refused line.
-    pub(crate) is_batch: bool,
-    pub(crate) is_strict: bool,
-    /// Whether `save` writes nothing.
-    pub(crate) is_saveless: bool,
-    /// The file that is newer than all others; none where it is empty.
-    pub(crate) newest: String,
-    /// The greatest heap in bytes that a dialogue has; 0: as much as there is.
+    /// The bytes of its heap; 0: as much as there is.
     pub(crate) heap: u32,
+    /// The number of the store's call that is refused; 0 is none.
+    pub(crate) refused: u32,
+    pub(crate) columns: u32,
+    /// The lines of an earlier dialogue.
+    pub(crate) earlier: Vec<Vec<u8>>,
+    pub(crate) events: Vec<Coming>,
+    /// What is to come of it. With no lines for the history's file these aren't compared.
+    pub(crate) sight: Sight,
 }
 
 impl Talk {
@@ -41,49 +53,36 @@ impl Talk {
         Talk {
             name,
             script: String::new(alloc),
-            is_terminal: false,
-            is_talk: false,
-            slice: 1000,
-            reads: Vec::new(alloc),
-            screen: Vec::new(alloc),
-            said: String::new(alloc),
-            errors: String::new(alloc),
-            record: String::new(alloc),
-            is_batch: false,
-            is_strict: false,
-            is_saveless: false,
-            newest: String::new(alloc),
+            settings: Settings {
+                manner: Manner::Given,
+                is_strict: false,
+                is_saveless: false,
+                is_talk: false,
+            },
+            is_ended: false,
+            is_once: false,
+            slice: 0,
             heap: 0,
+            refused: 0,
+            columns: 80,
+            earlier: Vec::new(alloc),
+            events: Vec::new(alloc),
+            sight: Sight::new(alloc),
         }
     }
 
     /// Takes a word for how it is held; whether there is such a word.
     pub(crate) fn take_flag(&mut self, word: &str) -> bool {
         match word {
-            "terminal" => self.is_terminal = true,
-            "talk" => self.is_talk = true,
-            "batch" => self.is_batch = true,
-            "strict" => self.is_strict = true,
-            "no-save" => self.is_saveless = true,
+            "terminal" => self.settings.manner = Manner::Typed,
+            "batch" => self.settings.manner = Manner::Batch,
+            "talk" => self.settings.is_talk = true,
+            "strict" => self.settings.is_strict = true,
+            "no-save" => self.settings.is_saveless = true,
+            "ends" => self.is_ended = true,
+            "once" => self.is_once = true,
             _ => return false,
         }
         true
-    }
-
-    /// What is asked for.
-    pub(crate) fn wish(&self) -> Wish<'_> {
-        let script = if self.script.is_empty() {
-            None
-        } else {
-            Some(self.script.as_bytes())
-        };
-        Wish {
-            script,
-            is_talk: self.is_talk,
-            slice: self.slice,
-            is_batch: self.is_batch,
-            is_strict: self.is_strict,
-            is_saveless: self.is_saveless,
-        }
     }
 }

@@ -1,0 +1,19 @@
+use Rattle.std.proofs.Common.{◌∙◌, List, ℕ, refl, ap, subst, to_z-of_z, w32}
+use Rattle.p11_line_editor.specs.Completion.{word_of}
+use Rattle.p11_c.specs.Calls.{lent}
+use Rattle.p11_c.specs.HeldCalls.{HandsText}
+use Rattle.p11_c.specs.Seats.{Dialogue}
+use Rattle.p11_c.proofs.SeatLemmas.{on_none, on_some}
+use Rattle.p11_c.proofs.console.p11_console_front.Goals as goal
+
+pub returns-in_default : goal.returns-in_default
+returns-in_default c =
+    on_none _ _ c.args.handle.now.slot.held c.take.new.self.slot.held _ c.in_default.ensures.taken
+    (to_z-of_z {w = w32} {z = c.number.result} (record { sfits = c.number.type_inv }) ∙ c.number.ensures) c.take.ensures.none refl
+
+pub returns : goal.returns
+returns c =
+    let P : List ℕ → Type 0 = λ t. HandsText c.hand_text-status.result t (lent c.args.bytes.now c.args.bytes_length.now) (lent c.hand_text-status.new.out c.hand_text-status.new.out_length) in
+    on_some _ _ c.args.handle.now.slot.held c.put.new.self.slot.held _ c.in-Some.seat.value c.in-Some.seat.value c.hand_text-status.result c.in-Some.ensures.taken
+    (to_z-of_z {w = w32} {z = c.number-2.result} (record { sfits = c.number-2.type_inv }) ∙ c.number-2.ensures) c.put.ensures
+    (refl, subst P (c.front.ensures ∙ ap (λ (k : Dialogue). word_of k.typist.editor.line) c.deref.ensures) c.hand_text-status.ensures)

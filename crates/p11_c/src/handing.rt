@@ -1,0 +1,26 @@
+// What is handed out of a console.
+ghost use Rattle.std.specs.Prelude.{option_copied};
+ghost use Rattle.p11_c.specs.Calls.{lent};
+ghost use Rattle.p11_c.specs.SeatCalls.{HandsFront, HandsWanted};
+
+use crate::handle::hand_text;
+use crate::status::Status;
+
+/// Copies as much of a text into the caller's buffer, from its front, as that has room for; it is told how many bytes.
+pub(crate) fn hand_front(text: &[u8], out: &mut [u8], out_length: &mut usize)
+    ensures { HandsFront text.now (lent out.old out_length.old) (lent out.new out_length.new) }
+{
+    let count = text.len().min(out.len());
+    out[..count].copy_from_slice(&text[..count]);
+    *out_length = count;
+}
+
+/// Copies what is wanted into the caller's buffer, if that has room for it; it is told the length.
+pub(crate) fn hand_wanted(asked: Option<&[u8]>, out: &mut [u8], out_length: &mut usize) -> Status
+    ensures { HandsWanted result (option_copied asked.entry) (lent out.old out_length.old) (lent out.new out_length.new) }
+{
+    match asked {
+        Some(text) => hand_text(text, out, out_length),
+        None => Status::NoFile,
+    }
+}

@@ -1,0 +1,172 @@
+// What the host gives: files, and that one is written.
+ghost use Rattle.std.specs.Prelude.{◌≡◌, true, option_copied};
+ghost use Rattle.p11_console.specs.Files.{Gives, Takes, TakesPut, file_of, wanted, image_in, may_replace, is_pack, way_missing};
+ghost use Rattle.p11_console.specs.Manner.{is_batch};
+ghost use Rattle.p11_console.specs.Said.{Says};
+
+use super::Console;
+use crate::buffer::Buffer;
+use crate::files::{file_in, give_line, is_mount, name_of, way_missing};
+use crate::note::Note;
+use crate::reasons::note_of_file;
+use crate::scripts::Script;
+use crate::settings::is_batch;
+use crate::text::Text;
+use crate::tries::refused;
+use crate::trouble::{PutFault, Trouble};
+use crate::way::Way;
+use p11_lines::{Answer, Bytes, Fault, Line};
+use std::alloc::Allocator;
+
+impl<A: Allocator + Copy> Console<A> {
+    /// The name of the file that is wanted, or that `image` is for.
+    pub fn name(&self) -> Option<&[u8]>
+        ensures { option_copied result ≡ wanted self.now.way }
+    {
+        match self.way.get() {
+            Way::Fetching { line, .. } => name_of(line),
+            Way::Putting { line, .. } => name_of(line),
+            Way::Opening { name } => Some(name.as_slice()),
+            _ => None,
+        }
+    }
+
+    /// The bytes that the file is to have.
+    pub fn image(&self) -> Option<&[u8]>
+        ensures { option_copied result ≡ image_in self.now.way }
+    {
+        match self.way.get() {
+            Way::Putting { image, .. } => Some(image.as_slice()),
+            _ => None,
+        }
+    }
+
+    /// Whether a file of that name which is there may be written over.
+    pub fn may_replace(&self) -> bool
+        ensures { result ≡ may_replace self.now.way }
+    {
+        match self.way.get() {
+            Way::Putting { is_agreed, .. } => *is_agreed,
+            _ => true,
+        }
+    }
+
+    /// Whether the file that is wanted is a pack's, which a `save` may write over unasked.
+    pub fn is_pack(&self) -> bool
+        ensures { result ≡ is_pack self.now.way }
+    {
+        match self.way.get() {
+            Way::Fetching { line, .. } => is_mount(line),
+            _ => false,
+        }
+    }
+
+    /// The host gives the bytes of the file that is wanted, or says why not. Where none is wanted nothing is done.
+    pub fn fetched(&mut self, alloc: A, file: Result<Vec<u8, A>, Trouble>)
+        ensures { Gives (file_of file) self.old.way self.old self.new }
+    {
+        let way = self.way.take();
+        let way = self.give(alloc, way, file);
+        self.way.set(way);
+    }
+
+    fn give(&mut self, alloc: A, way: Way<A>, file: Result<Vec<u8, A>, Trouble>) -> Way<A>
+        ensures { Gives (file_of file) way (record self.old { way = way }) (record self.new { way = result }) }
+    {
+        match way {
+            Way::Fetching { line, text } => give_line(alloc, &mut self.panel, &line, text, file),
+            Way::Opening { name } => match file {
+                Ok(bytes) => {
+                    self.script = Buffer::of(bytes);
+                    self.source = Script::of(alloc, name);
+                    Way::Free
+                }
+                Err(trouble) => self.miss(alloc, name.as_slice(), trouble),
+            },
+            way => way,
+        }
+    }
+
+    /// A script can't be had.
+    fn miss(&mut self, alloc: A, name: &[u8], trouble: Trouble) -> Way<A>
+        ensures way { result ≡ way_missing (is_batch self.old.settings.manner) trouble.error }
+        ensures state { self.new ≡ record self.old { lacks_script = true } }
+    {
+        self.lacks_script = true;
+        let is_all = is_batch(self.settings.manner);
+        if is_all {
+            let mut said = Text::new(alloc);
+            said.add(b"terminal: ");
+            said.add(name);
+            said.add(b": ");
+            said.add(trouble.reason.as_bytes());
+            said.add(b"\n");
+            self.errors.say(said.as_slice());
+        }
+        way_missing(alloc, is_all, name, trouble)
+    }
+
+    /// The host has written the file, or says why not. Where none was to be written nothing is done.
+    pub fn put(&mut self, alloc: A, done: Result<(), PutFault>)
+        ensures { Takes done self.old.way self.old self.new }
+    {
+        let way = self.way.take();
+        let way = self.take_put(alloc, way, done);
+        self.way.set(way);
+    }
+
+    fn take_put(&mut self, alloc: A, way: Way<A>, done: Result<(), PutFault>) -> Way<A>
+        ensures { Takes done way (record self.old { way = way }) (record self.new { way = result }) }
+    {
+        match way {
+            Way::Putting {
+                line,
+                image,
+                text,
+                ..
+            } => self.end_save(alloc, line, image, text, done),
+            way => way,
+        }
+    }
+
+    /// Ends a SAVE whose file the host has written, or not.
+    fn end_save(
+        &mut self,
+        alloc: A,
+        line: Line<A>,
+        image: Bytes<A>,
+        text: Bytes<A>,
+        done: Result<(), PutFault>,
+    ) -> Way<A>
+        ensures { TakesPut done line image text self.old (record self.new { way = result }) }
+    {
+        match done {
+            Ok(()) => {
+                self.saved.note(&line, image);
+                Way::Telling {
+                    answer: Answer::Done,
+                    text,
+                    note: Note::none(),
+                }
+            }
+            Err(PutFault::There) => {
+                self.ask(alloc, &line);
+                Way::Asking { line, image, text }
+            }
+            Err(PutFault::Refused { reason }) => {
+                let note = note_of_file(alloc, file_in(&line), reason);
+                refused(alloc, Fault::StoreFault, note)
+            }
+        }
+    }
+
+    /// Asks whether the file of a line is written over.
+    fn ask(&mut self, alloc: A, line: &Line<A>)
+        ensures { Says self.old.screen self.new.screen × (self.new ≡ record self.old { screen = self.new.screen }) }
+    {
+        let mut said = Text::new(alloc);
+        said.add(file_in(line));
+        said.add(b" is there: write over it (y, or another key)? ");
+        self.screen.say(said.as_slice());
+    }
+}

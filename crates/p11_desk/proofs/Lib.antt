@@ -1,4 +1,0 @@
-pub mod DeskLemmas
-pub mod KeyboardLemmas
-pub mod ScriptLemmas
-pub mod Writing

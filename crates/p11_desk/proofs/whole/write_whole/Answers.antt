@@ -1,7 +1,0 @@
-use Rattle.std.proofs.Common.{arith}
-use Rattle.p11_desk.proofs.Writing.{Left_slice}
-use Rattle.p11_desk.proofs.whole.write_whole.Goals as goal
-
-pub loop-rest-preserved : goal.loop-rest-preserved
-loop-rest-preserved g c =
-    Left_slice (g.W.Write.contents c.args.writer.now) (g.W.Write.contents c.loop-rest.writer) (g.W.Write.contents c.write.new.self) c.args.piece.now c.loop-rest.rest.now _ _ c.loop-rest.invariant c.in-Ok.ensures.bytes (omega (arith, c.in-Ok.ensures.bound))

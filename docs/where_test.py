@@ -1,0 +1,72 @@
+#!/usr/bin/env python3
+"""docs/where_test.py: tries docs/where on `arrival`, the turn in which a drive's heads have come to a cylinder.
+
+Its sessions below and what a turn more changes in them are worked out by hand from chapter 15 of the book: a seek is due 16 turns
+and one for each cylinder after GO, a transfer's first sector 32 turns later. With all sessions of the project docs/where
+found the same 32 as sessions/check did on a program whose `arrival` was a turn longer. Exit status 1: something else is listed.
+"""
+import os
+import subprocess
+import sys
+import tempfile
+
+HERE = os.path.dirname(os.path.realpath(__file__))
+SESSIONS = """@ empty 0 00
+
+= a seek over two cylinders is due in turn 18
+> mount 0 empty rw; deposit 777412 100; deposit 777404 11; deposit 1000 777; set 7 1000; step 17
+STOP turns 17 001000
+> examine 777404
+EXAM 777404 000210
+> step 1
+STOP turns 1 001000
+> examine 777404
+EXAM 777404 020210
+
+= a read ends in turn 48
+> mount 0 empty rw; deposit 777406 177777; deposit 777404 5; deposit 1000 777; set 7 1000; step 48
+STOP turns 48 001000
+> examine 777404
+EXAM 777404 000204
+
+= a seek that nobody waits for
+> mount 0 empty rw; deposit 777404 11; examine 777404
+EXAM 777404 000210
+
+= a drive without a pack
+> deposit 777404 11; examine 777402
+EXAM 777402 000200
+"""
+WANTED = [
+    "crates/p11_rk11/specs/Starts.antt:",
+    ": after_begin",
+    ": Mounted::arrival",
+    "turn + 16 + u64::from(",
+    "model/pdp11/disk.py:",
+    ": Worked: heads at cylinder 0, RKDA at cylinder 2",
+    "with 17 for 16 at model/pdp11/disk.py:",
+    "sessions that answer something else: 2",
+    ": a seek over two cylinders is due in turn 18: > examine 777404: EXAM 777404 020210",
+    ": a read ends in turn 48: > examine 777404: EXAM 777404 000204",
+]
+
+
+def main():
+    with tempfile.NamedTemporaryFile("w", suffix=".txt") as file:
+        file.write(SESSIONS)
+        file.flush()
+        command = [os.path.join(HERE, "where"), "Starts.arrival", "--sessions", file.name]
+        done = subprocess.run(command, stdout=subprocess.PIPE, text=True)
+    lacking = [line for line in WANTED if line not in done.stdout]
+    wrong = [f"it doesn't list: {line}" for line in lacking]
+    wrong += [f"its exit status is {done.returncode}"] if done.returncode else []
+    refused = subprocess.run([os.path.join(HERE, "where"), "no_such"], stderr=subprocess.DEVNULL)
+    wrong += ["a name that is none isn't refused"] if refused.returncode != 1 else []
+    for line in wrong:
+        print(f"docs/where_test.py: {line}")
+    print(f"docs/where_test.py: {len(WANTED)} places of a turn more for a seek, {len(wrong)} faults")
+    return 1 if wrong else 0
+
+
+if __name__ == "__main__":
+    sys.exit(main())

@@ -1,0 +1,178 @@
+"""The console of a dialogue, over the library for C: it is given events, and gives bytes and requests (docs/LIBRARY.md).
+
+A host gives keys, makes steps, writes what `screen`, `record`, `past` and `errors` give, and answers what a step wants.
+"""
+import ctypes
+
+TYPED, GIVEN, BATCH = range(3)
+STEP, KEYS, IDLE, MEMORY, FETCH, PUT, NAMES, END = range(8)
+WRITTEN, THERE, MISSING, DENIED, FOLDER, PATH, LONG, NO_MEMORY, FAULT = range(9)
+DONE, TOO_SMALL, NO_FILE = 0, 4, 7
+TAKING = {"screen": "shown", "record": "recorded", "past": "kept"}
+ROOM = 65536
+
+
+class Handle(ctypes.Structure):
+    """What holds a console or none."""
+    _fields_ = [("at", ctypes.c_void_p), ("consoles", ctypes.c_uint32)]
+
+
+class Refused(Exception):
+    """A call of the library wasn't done; `status` is the number that it answers (examples/c/p11.h)."""
+
+    def __init__(self, call, status):
+        super().__init__(f"p11_console_{call} answers status {status}")
+        self.status = status
+
+
+class Console:
+    """A console over a new machine. `library` is the library for C, as ctypes loads it.
+
+    `manner`: TYPED, where a person types the lines; GIVEN, where a program gives them; BATCH, where a script is all. The other
+    words are those of `p11_console_new` in examples/c/p11.h. A call that isn't done raises Refused, and changes nothing.
+    """
+
+    def __init__(self, library, manner=GIVEN, kwords=28, lines=1024, strict=False, saveless=False, talk=False):
+        self.p11, self.handle = library, Handle()
+        status = library.p11_console_new(kwords, lines, manner, int(strict), int(saveless), int(talk), ctypes.byref(self.handle))
+        if status != DONE:
+            raise Refused("new", status)
+
+    def status_of(self, call, *words):
+        return getattr(self.p11, "p11_console_" + call)(ctypes.byref(self.handle), *words)
+
+    def done(self, call, *words):
+        status = self.status_of(call, *words)
+        if status != DONE:
+            raise Refused(call, status)
+
+    def give(self, call, held):
+        self.done(call, bytes(held), ctypes.c_size_t(len(held)))
+
+    def number(self, call):
+        found = ctypes.c_uint32()
+        self.done(call, ctypes.byref(found))
+        return found.value
+
+    def front_of(self, output):
+        """All bytes of an output, which are taken."""
+        out, length, found = ctypes.create_string_buffer(ROOM), ctypes.c_size_t(1), []
+        while length.value:
+            self.done(output, out, ctypes.c_size_t(ROOM), ctypes.byref(length))
+            found.append(out.raw[:length.value])
+            self.done(TAKING[output], ctypes.c_size_t(length.value))
+        return b"".join(found)
+
+    def whole(self, call):
+        """What a call hands out whole; None: there is none."""
+        length, status = ctypes.c_size_t(), TOO_SMALL
+        while status == TOO_SMALL:
+            out = ctypes.create_string_buffer(length.value + 1)
+            status = self.status_of(call, out, ctypes.c_size_t(length.value), ctypes.byref(length))
+        if status not in (DONE, NO_FILE):
+            raise Refused(call, status)
+        return out.raw[:length.value] if status == DONE else None
+
+    # Events.
+
+    def open(self, name):
+        """The lines of the file of this name come first."""
+        self.give("open", name)
+
+    def remember(self, line):
+        """A line of an earlier dialogue, for the history."""
+        self.give("remember", line)
+
+    def keys(self, held):
+        self.give("keys", held)
+
+    def closed(self):
+        """No key comes any more."""
+        self.done("closed")
+
+    def paused(self):
+        """The keyboard has nothing more for now."""
+        self.done("paused")
+
+    def ticked(self):
+        """The line clock ticks."""
+        self.done("ticked")
+
+    def resized(self, columns):
+        self.done("resized", ctypes.c_size_t(columns))
+
+    def redrawn(self):
+        """The line that is typed is to be shown again."""
+        self.done("redrawn")
+
+    def step(self, turns=1_000_000):
+        """Does one thing, in a run at most so many turns; what the console wants then, STEP to END."""
+        want = ctypes.c_uint32()
+        self.done("step", ctypes.c_uint32(turns), ctypes.byref(want))
+        return want.value
+
+    # Outputs: bytes, which are taken.
+
+    def screen(self):
+        return self.front_of("screen")
+
+    def record(self):
+        return self.front_of("record")
+
+    def past(self):
+        """Lines for the history's file."""
+        return self.front_of("past")
+
+    def errors(self):
+        """What is said of a script that is all, for the standard error."""
+        found = self.whole("errors")
+        self.done("told")
+        return found
+
+    # Requests, and their answers.
+
+    def name(self):
+        """The name of the file that is wanted or to be written, or None."""
+        return self.whole("name")
+
+    def image(self):
+        """The bytes that it is to have, or None."""
+        return self.whole("image")
+
+    def front(self):
+        """The word with which the names have to begin that are wanted."""
+        return self.whole("front")
+
+    def request(self):
+        """Whether the file to be written may be there already, and whether the one that is wanted is a pack's."""
+        replace, pack = ctypes.c_uint32(), ctypes.c_uint32()
+        self.done("request", ctypes.byref(replace), ctypes.byref(pack))
+        return bool(replace.value), bool(pack.value)
+
+    def fetched(self, held):
+        self.give("fetched", held)
+
+    def missed(self, trouble):
+        """There are no bytes of the file: MISSING to FAULT."""
+        self.done("missed", ctypes.c_uint32(trouble))
+
+    def put(self, trouble=WRITTEN):
+        """What became of the file: WRITTEN, THERE, or why it can't be written."""
+        self.done("put", ctypes.c_uint32(trouble))
+
+    def names(self, names):
+        """Names of files, those of folders with a slash behind them."""
+        self.give("names", b"\0".join(names))
+
+    # What there is to know.
+
+    def status(self):
+        """The exit status of a program that holds this dialogue, once it is over."""
+        return self.number("status")
+
+    def pc(self):
+        """The program counter of the machine."""
+        return self.number("pc")
+
+    def drop(self):
+        self.p11.p11_console_drop(ctypes.byref(self.handle))

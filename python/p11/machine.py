@@ -1,0 +1,223 @@
+"""A machine that is kept, with its registers, memory, keys and drives as calls (the lines of docs/OPERATOR.md)."""
+import ctypes
+from ctypes import addressof
+from typing import Iterable, List, NamedTuple, Optional, Union
+
+from . import library
+from .library import DONE, TOO_SMALL, Failed, Handle, RegistersTold, Run
+
+MARKS = ("ready", "waiting", "halted")
+REASONS = ("halt", "turns", "idle", "memory")
+MOST = 100_000_000
+# The usual loader of a pack: it reads the first sectors of drive 0 to 0, and goes there.
+LOADER = (0o12700, 0o177406, 0o12710, 0o177400, 0o12740, 5, 0o105710, 0o100376, 0o5007)
+NUMBERS = dict(r0=0, r1=1, r2=2, r3=3, r4=4, r5=5, sp=0o6, ksp=0o6, usp=0o10, pc=0o7, ps=0o11)
+TEXTS = {
+    1: "there are the drives 0 to 7", 2: "the drive is empty", 3: "the drive has a pack; unmount it first",
+    4: "the image has more than 2,494,464 bytes", 5: "an address of a word is even",
+    6: "nothing answers at this address", 7: "the drive is busy; let the machine make some turns",
+    8: "64 keys wait; let the machine take some", 9: "these bytes are no absolute tape", 10: "on the I/O page it's one word at a time",
+    11: "there is no such register", 12: "there is no memory for it", 13: "this is no line of the console", 14: "there is no such file",
+}
+
+
+class Refused(ValueError):
+    """A line that was refused, and has changed nothing: its `line`, the refusal's `number` and `name`."""
+
+    def __init__(self, line: str, number: int, name: str):
+        super().__init__(f"{line[:60]}: {number} {name}: {TEXTS.get(number, '')}")
+        self.line, self.number, self.name = line, number, name
+
+
+class Stop(NamedTuple):
+    """How a run ended: `halt`, `turns` (all are made), `idle` or `memory`; how many turns it made; PC."""
+    reason: str
+    turns: int
+    pc: int
+
+
+class Registers(NamedTuple):
+    """The registers: R0 to R5, the stack pointers of kernel and user mode, PC, the status word, SR0 and SR2 of memory management;
+    the turns since the machine was made; and whether it's ready, waiting or halted."""
+    r0: int
+    r1: int
+    r2: int
+    r3: int
+    r4: int
+    r5: int
+    ksp: int
+    usp: int
+    pc: int
+    ps: int
+    sr0: int
+    sr2: int
+    turns: int
+    mark: str
+
+    def __repr__(self) -> str:
+        words = ", ".join(f"{name}=0o{word:06o}" for name, word in zip(self._fields[:12], self))
+        return f"Registers({words}, turns={self.turns}, mark={self.mark!r})"
+
+
+class Machine:
+    """A PDP-11/40 with `kwords` thousands (1,024) of words of memory, 4 to 124 in steps of 4, which keeps up to `lines` decoded
+    instructions. Closed at the end of a `with`, or by `close`."""
+
+    def __init__(self, kwords: int = 28, lines: int = 1024):
+        self._p11 = library.load()
+        self._handle, self._told, self._typed = Handle(), Run(), b""
+        self._at, self._run, self._make_turns = addressof(self._handle), addressof(self._told), self._p11.p11_run
+        self._done(self._p11.p11_new(kwords, lines, b"", 0, self._at))
+
+    def __enter__(self) -> "Machine":
+        return self
+
+    def __exit__(self, *_: object) -> None:
+        self.close()
+
+    def __del__(self) -> None:
+        if hasattr(self, "_at"):
+            self.close()
+
+    def close(self) -> None:
+        """Frees the machine; every call but this one fails from then on."""
+        self._p11.p11_drop(self._at)
+
+    @staticmethod
+    def _done(status: int) -> None:
+        if status != DONE:
+            raise Failed(status)
+
+    def _handed(self, call, *words) -> bytes:
+        """What a call hands out, in a buffer that has just the room for it."""
+        length, status = ctypes.c_size_t(), TOO_SMALL
+        while status == TOO_SMALL:
+            out = ctypes.create_string_buffer(length.value + 1)
+            status = call(self._at, *words, out, length.value, addressof(length))
+        self._done(status)
+        return out.raw[:length.value]
+
+    def line(self, line: str) -> str:
+        """Does a line of the console, and gives the text of its answer."""
+        typed = self.typed
+        text = line.encode("latin-1")
+        self._done(self._p11.p11_line(self._at, text, len(text)))
+        answer = self._handed(self._p11.p11_answer).decode("latin-1")
+        self._typed = None if "TTY " in answer or "STOP " in answer else typed
+        if answer.startswith("?"):
+            _, number, name = answer.split()[:3]
+            raise Refused(line, int(number), name)
+        return answer
+
+    def deposit(self, address: int, *words: Union[int, Iterable[int]]) -> None:
+        """Writes words from an address on: numbers, or what gives numbers."""
+        row = [word for part in words for word in ([part] if isinstance(part, int) else part)]
+        for at in range(0, len(row), 64):
+            self.line(f"deposit {address + 2 * at:o} " + " ".join(f"{word:o}" for word in row[at:at + 64]))
+
+    def examine(self, address: int, count: Optional[int] = None) -> Union[int, List[int]]:
+        """The word at an address; with a count the words from it on, as a list."""
+        words = [int(line.split()[2], 8) for line in self.line(f"examine {address:o} {count or 1}").splitlines()]
+        return words[0] if count is None else words
+
+    def set(self, **registers: int) -> None:
+        """Sets registers by their names: r0 to r5, sp (or ksp), usp, pc, ps."""
+        for name, word in registers.items():
+            self.line(f"set {NUMBERS[name]:o} {word:o}" if name in NUMBERS else f"set {name}")
+
+    def start(self, address: int) -> None:
+        """Resets the devices, and puts PC to an address; `step` and `run` go on from there."""
+        self.line(f"start {address:o}")
+
+    def step(self, turns: int = 1) -> Stop:
+        """Makes so many turns, or fewer if the machine halts."""
+        return self._made(turns, 0)
+
+    def run(self, turns: int = MOST) -> Stop:
+        """Makes turns until the machine halts or idles, or so many are made."""
+        return self._made(turns, 1)
+
+    def _made(self, turns: int, until_idle: int) -> Stop:
+        if turns > MOST:
+            return self._made_in_parts(turns, until_idle)
+        status = self._make_turns(self._at, turns, until_idle, self._run)
+        if status:
+            raise Failed(status)
+        self._typed = None
+        told = self._told
+        return Stop(REASONS[told.reason], told.turns, told.pc)
+
+    def _made_in_parts(self, turns: int, until_idle: int) -> Stop:
+        made, typed = 0, b""
+        while True:
+            stop = self._made(min(turns - made, MOST), until_idle)
+            made += stop.turns
+            self._typed = typed = typed + self.typed
+            if made == turns or stop.reason != "turns":
+                return Stop(stop.reason, made, stop.pc)
+
+    @property
+    def typed(self) -> bytes:
+        """What was typed on the machine's terminal in the last run."""
+        if self._typed is None:
+            self._typed = self._handed(self._p11.p11_typed_text)
+        return self._typed
+
+    @property
+    def regs(self) -> Registers:
+        """The registers, with no effect on the machine."""
+        it = RegistersTold()
+        self._done(self._p11.p11_regs(self._at, addressof(it)))
+        return Registers(*it.general, it.kernel_sp, it.user_sp, it.pc, it.status, it.status_0, it.status_2, it.turns, MARKS[it.mark])
+
+    def key(self, text: Union[str, bytes]) -> None:
+        """Presses keys: the line ends by "\\r" on this machine. It takes one every 64 turns at most, and 64 wait."""
+        keys = text.encode("latin-1") if isinstance(text, str) else text
+        self.line("key " + "".join(f"\\{key:03o}" for key in keys))
+
+    @property
+    def keys_waiting(self) -> int:
+        """How many keys wait."""
+        count = ctypes.c_uint32()
+        self._done(self._p11.p11_keys_waiting(self._at, addressof(count)))
+        return count.value
+
+    def mount(self, drive: int, image: bytes = b"", write: bool = True) -> None:
+        """Mounts a pack of these bytes, which are the machine's own from then on; fewer than an RK05 has are filled with zeros."""
+        self._with_file(f"mount {drive:o} pack {'rw' if write else 'ro'}", image)
+
+    def unmount(self, drive: int) -> None:
+        """Takes a pack out; what `pack` didn't give is lost."""
+        self.line(f"unmount {drive:o}")
+
+    def load(self, tape: bytes) -> Optional[int]:
+        """Loads an absolute paper tape: its start address, if it has one."""
+        start = self._with_file("load pack", tape).split()[2]
+        return None if start == "none" else int(start, 8)
+
+    def boot(self) -> None:
+        """Starts the pack on drive 0 by the usual loader; `run` and `step` go on."""
+        self.deposit(0o1000, LOADER)
+        self.start(0o1000)
+
+    def pack(self, drive: int) -> bytes:
+        """The whole pack on a drive as it is now, 2,494,464 bytes."""
+        self.line(f"save {drive:o} pack")
+        held = self._handed(self._p11.p11_file, b"pack", 4)
+        self._forget()
+        return held
+
+    def changed(self, drive: int) -> List[int]:
+        """The sectors that were written since the mount, in the order of their first writes."""
+        return [int(number) for number in self.line(f"changed {drive:o}").split()[2:]]
+
+    def _with_file(self, line: str, held: bytes) -> str:
+        """Does a line that takes a file from the machine's store."""
+        self._done(self._p11.p11_put_file(self._at, b"pack", 4, held, len(held)))
+        try:
+            return self.line(line)
+        finally:
+            self._forget()
+
+    def _forget(self) -> None:
+        self._done(self._p11.p11_forget(self._at, b"pack", 4))

@@ -1,0 +1,36 @@
+// node kinds.js EXAMPLES: what the page takes a file for, by itself: packs, tapes, scripts, and files that are neither. Exit status 1:
+// one is taken for something else.
+'use strict';
+const assert = require('assert'), fs = require('fs'), path = require('path'), vm = require('vm');
+
+const source = ['reasons', 'kinds'].map((name) => fs.readFileSync(path.join(__dirname, `../page/${name}.js`), 'utf8')).join('');
+const kindOf = vm.runInNewContext(`${source}; kindOf`, { TextDecoder });
+const examples = (name) => fs.readFileSync(path.join(process.argv[2], name));
+const text = (it) => Buffer.from(it, 'latin1');
+const behind = (before, bytes) => Buffer.concat([Buffer.from(before), bytes]);
+const sectors = (count) => Buffer.alloc(512 * count, '\xa0\x00\x17\x08', 'latin1');
+const tape = examples('greeting.tape'), node = fs.readFileSync(process.execPath).subarray(0, 51200);
+
+// Name, bytes, and what it is: a kind, a kind with what is asked, or what is said.
+const CASES = [
+  ['v6.rk05', sectors(4872), 'pack'], ['v6', sectors(4872), 'pack'], ['short.dsk', sectors(3), 'pack'], ['zeros.rk05', Buffer.alloc(2494464), 'pack'],
+  ['evening.pack', examples('evening.pack'), 'pack'], ['boot.pack', examples('boot.pack'), /boot\.pack has 50 bytes, which aren't whole sectors of 512$/],
+  ['something', sectors(3), /something has 1,536 bytes, and neither the size nor the name of a pack$/],
+  ['large.rk05', sectors(4873), /large\.rk05 has 2,494,976 bytes, and a pack of an RK05 has 2,494,464$/],
+  ['greeting.tape', tape, 'tape'], ['greeting', tape, 'tape'], ['greeting', behind([0, 0, 0], tape), 'tape'],
+  ['greeting', behind([7], tape), /greeting is no paper tape for its first byte: a tape begins with zeros and 1 0$/],
+  ['greeting', behind([0, 7, 9, 0], tape), /for its first 3 bytes/], ['wrong.ptap', behind([7], tape), 'tape'],
+  ['boot.p11', examples('boot.p11'), 'script'], ['record', text('# p11\nexamine 1000\n'), 'script'], ['empty.p11', text('# nothing\n'), 'script'],
+  ['page.html', text('<!doctype html>\n<title>x</title>'), /page\.html is a text, and no script: "<!doctype html>" is no line of the console$/],
+  ['page.dsk', text('<html>'.padEnd(512)), /is a text, and no script/], ['wide.txt', text('gr\xc3\xbc\xc3\x9fe'), /is a text, and no script/],
+  ['node', node, /node is a program for another machine, and no pack/], ['x.tar', behind(Buffer.alloc(257, 'x'), text('ustar\x0000')), /tar archive: unpack it first$/],
+  ['x.zip', text('PK\x03\x04\x14\0'), /ZIP archive: unpack it first$/], ['x.wasm', text('\0asm\x01\0\0\0'), /WebAssembly module/],
+  ['nothing', Buffer.alloc(0), /nothing has no bytes$/],
+];
+
+for (const [name, bytes, wanted] of CASES) {
+  const found = kindOf(name, new Uint8Array(bytes)), told = found.refused ?? found.doubt ?? found.kind;
+  if (wanted instanceof RegExp) assert.match(told, wanted);
+  else assert.equal(told, wanted, `${name}, of ${bytes.length} bytes`);
+}
+console.log(`web/check: ${CASES.length} files are taken for what they are`);

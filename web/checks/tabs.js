@@ -1,0 +1,87 @@
+// What the browser keeps: a second tab has a machine of its own, and takes the session over if it is asked to; the list of sessions;
+// and storage that is full.
+'use strict';
+const assert = require('assert');
+const { downloaded, kept } = require('./evening.js');
+const { withoutRemark } = require('./compare.js');
+
+const attempt = (page, line) => page.eval(`app.console.attempt(${JSON.stringify(line)})`);
+const shows = (page, text) => page.until(`app.view.text().includes(${JSON.stringify(text)})`);
+const idOf = (page) => page.eval('app.store.session.id');
+
+async function tabs({ page, url, say }) {
+  const asks = await page.before("navigator.storage.persist = async () => { globalThis.asked = (globalThis.asked ?? 0) + 1; };");
+  await page.goTo(url);
+  await asks();
+  await page.eval('app.sessions.fresh(28)');
+  await attempt(page, 'deposit 5000 123');
+  await attempt(page, 'deposit 5000 123');
+  await kept(page);
+  assert.equal(await page.eval('globalThis.asked'), 1, 'the browser is not asked once to keep what is stored');
+  const first = await idOf(page), other = await page.tab();
+  await other.goTo(url);
+  await other.until("document.querySelector('#offer').innerText.startsWith('The last session is open in another tab')");
+  await other.until(`(app.store.session?.id ?? ${first}) !== ${first}`);
+  await attempt(other, 'deposit 6000 1');
+  await attempt(page, 'deposit 5002 77');
+  await kept(page);
+  assert.equal(await idOf(page), first);
+  await other.eval("document.querySelector('#offer button').click()");
+  await shows(other, 'The session goes on');
+  await attempt(other, 'examine 5000 2');
+  await shows(other, 'EXAM 005002 000077');
+  await shows(page, 'The session goes on in another tab; here is a new machine.');
+  await page.until(`(app.store.session?.id ?? ${first}) !== ${first}`);
+  await kept(other);
+  await other.leave();
+  await page.reopen(url);
+  await shows(page, 'The session goes on');
+  assert.equal(await idOf(page), first, 'the session that was used last is another');
+  say('two tabs have a session each, and the second takes the first one\'s over');
+}
+
+// Each kept session is opened, renamed, exported, and forgotten behind one question.
+async function list({ page, native: { folder }, say }) {
+  const first = await idOf(page), row = `#kept li[data-session="${first}"]`, text = `(document.querySelector('${row}')?.innerText ?? '')`;
+  await page.eval("document.querySelector('[data-boot=boot]').click()");
+  await shows(page, 'HELLO FROM THE PACK');
+  await page.eval("document.querySelector('#kept').open || document.querySelector('#kept summary').click()");
+  await page.until(`/^Session ${first}: \\d+ \\w+.*, 0 turns, 1 KB /.test(${text}) || /^Session ${first}: \\w+ \\d+.*, 0 turns, 1 KB /.test(${text})`);
+  await page.click(`${row} button:nth-of-type(2)`);
+  await page.type('Mine\r');
+  await page.until(`${text}.startsWith('Mine: ')`);
+  const record = await downloaded(page, folder, `${row} button:nth-of-type(3)`, `session-${first}.p11`);
+  assert.equal(withoutRemark(record.toString('latin1')), 'deposit 5000 123\ndeposit 5000 123\ndeposit 5002 77\nexamine 5000 2\n');
+  await page.click(`${row} button:nth-of-type(1)`);
+  await page.until(`app.store.session?.id === ${first} && app.link.asked.size === 0`);
+  await attempt(page, 'examine 5002');
+  await shows(page, 'EXAM 005002 000077');
+  await page.until(`${text}.includes(', here')`);
+  await page.eval('app.sessions.fresh(28)');
+  await page.until(`document.querySelectorAll('${row} button').length === 4`);
+  await page.click(`${row} button:nth-of-type(4)`);
+  await page.until("document.querySelector('#offer').innerText.startsWith('Mine: its record and its files go for good.')");
+  await page.click('#offer button:nth-of-type(2)');
+  assert.notEqual(await page.eval(text), '', 'a session goes without a yes');
+  await page.click(`${row} button:nth-of-type(4)`);
+  await page.click('#offer button:nth-of-type(1)');
+  await page.until(`${text} === ''`);
+  say('kept sessions are listed, renamed, exported, opened, and forgotten behind a question');
+}
+
+// Storage that is full is said, and stays said while the machine goes on, until a session begins that can be kept.
+async function full({ page, say }) {
+  const told = "document.querySelector('#refused').innerText.includes('keeps nothing more of this session (its storage is full)')";
+  await page.eval("{ globalThis.put = IDBObjectStore.prototype.put; IDBObjectStore.prototype.put = () => { throw new DOMException('x', 'QuotaExceededError'); }; 0; }");
+  await attempt(page, 'deposit 5000 1');
+  await page.until(told);
+  await attempt(page, 'examine 5000');
+  await shows(page, 'EXAM 005000 000001');
+  assert(await page.eval(told), 'that the storage is full does not stay said');
+  await page.eval('{ IDBObjectStore.prototype.put = put; 0; }');
+  await page.eval('app.sessions.fresh(28)');
+  await page.until("document.querySelector('#refused').hidden");
+  say('storage that is full is said, and stays said');
+}
+
+module.exports = { tabs, list, full };
