@@ -49,7 +49,8 @@ int32_t p11_console_put(struct p11_console *, uint32_t);
 int32_t p11_console_front(struct p11_console *, uint8_t *, size_t, size_t *);
 int32_t p11_console_names(struct p11_console *, const uint8_t *, size_t);
 int32_t p11_console_status(struct p11_console *, uint32_t *);
-int32_t p11_console_pc(struct p11_console *, uint32_t *);
+int32_t p11_console_regs(struct p11_console *, struct p11_registers *);
+int32_t p11_console_devices(struct p11_console *, uint8_t *, size_t, size_t *);
 void p11_console_drop(struct p11_console *);
 
 IS(P11_DONE == 0 && P11_NO_MEMORY == 1 && P11_BAD_SIZE == 2 && P11_BAD_FILES == 3 && P11_TOO_SMALL == 4);
@@ -96,11 +97,11 @@ int main(void) {
         (void (*)(void))p11_console_name, (void (*)(void))p11_console_image, (void (*)(void))p11_console_request,
         (void (*)(void))p11_console_fetched, (void (*)(void))p11_console_missed, (void (*)(void))p11_console_put,
         (void (*)(void))p11_console_front, (void (*)(void))p11_console_names, (void (*)(void))p11_console_status,
-        (void (*)(void))p11_console_pc, (void (*)(void))p11_console_drop,
+        (void (*)(void))p11_console_regs, (void (*)(void))p11_console_devices, (void (*)(void))p11_console_drop,
     };
     struct p11_handle none = {0};
     struct p11_console silent = {0};
     p11_drop(&none);
     p11_console_drop(&silent);
-    return sizeof(calls) / sizeof(calls[0]) == 43 ? 0 : 1;
+    return sizeof(calls) / sizeof(calls[0]) == 44 ? 0 : 1;
 }

@@ -1,7 +1,8 @@
-"""dialogues.py LIBRARY: holds the dialogues of crates/p11_tests/data/dialogues.txt by the class Console of python/p11, and compares
-what is shown, said and recorded, the history's lines, the requests and the status with what is written there.
+"""dialogues.py LIBRARY: holds the dialogues of crates/p11_talks/data/dialogues.txt by the class Console of python/p11, and compares
+what is shown, said and recorded, the history's lines, the requests and the status with what is written there. Then a machine of
+its own does the lines of the record, and comes to the registers and devices that the console tells.
 
-How a row reads is said in crates/p11_tests/src/talks/dialogues.rt. Left out: the dialogues in which memory or a store fails, which
+How a row reads is said in crates/p11_talks/src/dialogues.rt. Left out: the dialogues in which memory or a store fails, which
 want an allocator and a store of Rattle. Exit status 1: a dialogue comes to something else; its first difference is printed.
 """
 import ctypes
@@ -12,9 +13,10 @@ import sys
 sys.dont_write_bytecode = True
 TOP = os.path.join(os.path.dirname(os.path.realpath(__file__)), "..", "..")
 sys.path.append(os.path.join(TOP, "python"))
-from p11 import console as p11  # noqa: E402 (the path is set first)
+os.environ["P11_LIBRARY"] = sys.argv[1]
+from p11 import Machine, console as p11  # noqa: E402 (the path is set first)
 
-DATA = os.path.join(TOP, "crates/p11_tests/data/dialogues.txt")
+DATA = os.path.join(TOP, "crates/p11_talks/data/dialogues.txt")
 KEYS = {
     "Up": b"\033[A", "Down": b"\033[B", "Right": b"\033[C", "Left": b"\033[D", "Home": b"\033[H", "End": b"\033[F",
     "Delete": b"\033[3~", "Backspace": b"\177", "Tab": b"\t", "Return": b"\r", "Esc": b"\033", "Brace": b"{",
@@ -124,6 +126,7 @@ class Sitting:
             elif want != p11.STEP:
                 self.answer(want)
         self.came["status"] = self.console.status()
+        self.came["machine"] = self.console.regs(), self.console.devices()
         self.console.drop()
         return self.came
 
@@ -164,9 +167,25 @@ class Sitting:
         self.came["requests"] += request + b"\n"
 
 
-def differs(talk, came):
+def replayed(record, files):
+    """Registers and devices of a new machine that has done the lines of a record."""
+    with Machine() as machine:
+        for line in record.decode("ascii").splitlines():
+            word, *words = line.split(" ")
+            if word == "mount":
+                machine.mount(int(words[0], 8), files[words[1]], words[2] == "rw")
+            elif word == "load":
+                machine.load(files[words[0]])
+            elif word == "save":
+                files[words[1]] = machine.pack(int(words[0], 8))
+            else:
+                machine.line(line)
+        return machine.regs, machine.line("device")
+
+
+def differs(talk, files, came):
     """The first output that isn't as it is written, or None."""
-    wanted = talk.wanted | {"status": int(talk.ways.get("status", 0))}
+    wanted = talk.wanted | {"status": int(talk.ways.get("status", 0)), "machine": replayed(came["record"], files)}
     if not wanted["past"]:
         del wanted["past"]
     return next((f"{output}: {came[output]!r}, and not {held!r}" for output, held in wanted.items() if came[output] != held), None)
@@ -175,6 +194,6 @@ def differs(talk, came):
 library = ctypes.CDLL(os.path.abspath(sys.argv[1]))
 with open(DATA, encoding="ascii") as data:
     talks = [(talk, files) for talk, files in talks_of(data.read().split("\n")) if not talk.is_left_out]
-wrong = [f"{talk.name}: {found}" for talk, files in talks if (found := differs(talk, Sitting(library, talk, files).hold()))]
-print("\n".join(wrong or [f"{len(talks)} dialogues by the class Console"]))
+wrong = [f"{talk.name}: {found}" for talk, files in talks if (found := differs(talk, files, Sitting(library, talk, dict(files)).hold()))]
+print("\n".join(wrong or [f"{len(talks)} dialogues by the class Console, each record once more"]))
 sys.exit(1 if wrong else 0)

@@ -363,9 +363,16 @@ int32_t p11_console_names(struct p11_console *console, const uint8_t *names, siz
 P11_NONNULL
 int32_t p11_console_status(struct p11_console *console, uint32_t *status);
 
-/* Tells the program counter of the console's machine, R7, with no effect on it. */
+/* Tells the registers of the console's machine, with no effect on it: the lights of a panel. All fields of regs are written. */
 P11_NONNULL
-int32_t p11_console_pc(struct p11_console *console, uint32_t *pc);
+int32_t p11_console_regs(struct p11_console *console, struct p11_registers *regs);
+
+/* Hands out the lines that `device` answers, with no effect on the machine or the dialogue: the clock, the console line, the disk
+ * controller, each of the eight drives (what is on it, its cylinder, how many sectors were written), memory management, and who
+ * asks for the bus. text, text_capacity and text_length are for them what those of p11_answer are for its text. As p11_answer,
+ * and P11_NO_MEMORY: nothing is written. */
+P11_NONNULL
+int32_t p11_console_devices(struct p11_console *console, uint8_t *text, size_t text_capacity, size_t *text_length);
 
 /* Drops the console and its machine, if the handle holds one: their memory is freed, and the handle holds none. */
 P11_NONNULL

@@ -99,6 +99,9 @@ static int holds(void) {
     while (good && length > 0)
         good = p11_console_screen(&console, out, 7, &length) == P11_DONE && p11_console_shown(&console, length) == P11_DONE;
     good &= is_given && p11_console_shown(&console, 1) == P11_TOO_MANY;
+    struct p11_registers regs;
+    length = 7;
+    good &= p11_console_regs(&console, &regs) == P11_DONE && is_handed(p11_console_devices(&console, out, sizeof out, &length), length);
     p11_console_drop(&console);
     return good && console.consoles == 0;
 }

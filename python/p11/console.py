@@ -4,6 +4,9 @@ A host gives keys, makes steps, writes what `screen`, `record`, `past` and `erro
 """
 import ctypes
 
+from .library import RegistersTold
+from .machine import registers_of
+
 TYPED, GIVEN, BATCH = range(3)
 STEP, KEYS, IDLE, MEMORY, FETCH, PUT, NAMES, END = range(8)
 WRITTEN, THERE, MISSING, DENIED, FOLDER, PATH, LONG, NO_MEMORY, FAULT = range(9)
@@ -170,9 +173,15 @@ class Console:
         """The exit status of a program that holds this dialogue, once it is over."""
         return self.number("status")
 
-    def pc(self):
-        """The program counter of the machine."""
-        return self.number("pc")
+    def regs(self):
+        """The machine's registers (p11.Registers), with no effect on it."""
+        told = RegistersTold()
+        self.done("regs", ctypes.byref(told))
+        return registers_of(told)
+
+    def devices(self):
+        """The lines that `device` answers: the clock, the console line, the disk, each drive, memory management."""
+        return self.whole("devices").decode("ascii")
 
     def drop(self):
         self.p11.p11_console_drop(ctypes.byref(self.handle))

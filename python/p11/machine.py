@@ -59,6 +59,10 @@ class Registers(NamedTuple):
         return f"Registers({words}, turns={self.turns}, mark={self.mark!r})"
 
 
+def registers_of(it: RegistersTold) -> Registers:
+    return Registers(*it.general, it.kernel_sp, it.user_sp, it.pc, it.status, it.status_0, it.status_2, it.turns, MARKS[it.mark])
+
+
 class Machine:
     """A PDP-11/40 with `kwords` thousands (1,024) of words of memory, 4 to 124 in steps of 4, which keeps up to `lines` decoded
     instructions. Closed at the end of a `with`, or by `close`."""
@@ -168,7 +172,7 @@ class Machine:
         """The registers, with no effect on the machine."""
         it = RegistersTold()
         self._done(self._p11.p11_regs(self._at, addressof(it)))
-        return Registers(*it.general, it.kernel_sp, it.user_sp, it.pc, it.status, it.status_0, it.status_2, it.turns, MARKS[it.mark])
+        return registers_of(it)
 
     def key(self, text: Union[str, bytes]) -> None:
         """Presses keys: the line ends by "\\r" on this machine. It takes one every 64 turns at most, and 64 wait."""

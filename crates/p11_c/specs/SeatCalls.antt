@@ -1,6 +1,11 @@
 -- What a call does with a console that a handle holds.
-use Rattle.std.specs.Prelude.{ℤ, ◌≡◌, ◌<◌, ◌≤◌, ℕ, Bool, true, false, ◌&&◌, nat_eq, nat_le, min, List, ◌++◌, length, take, drop, Option, None, Some, Result, Ok, Err, MatchOption, if◌then◌else◌}
+use Rattle.std.specs.Prelude.{ℤ, ◌≡◌, ◌<◌, ◌≤◌, ◌⊎◌, ℕ, Bool, true, false, ◌&&◌, nat_eq, nat_le, min, List, ◌++◌, length, take, drop, Option, None, Some, Result, Ok, Err, MatchOption, if◌then◌else◌}
+use Rattle.std.specs.Global.{Global}
+use Rattle.p11_lines.specs.AnswerText.{text_of}
+use Rattle.p11_lines.specs.declared.answer.Answer.TheVariants as answers
 use Rattle.p11_cpu.specs.Operator.{new_machine}
+use Rattle.p11_cpu.specs.State.{State}
+use Rattle.p11_panel.specs.Shown.{shown_devices}
 use Rattle.p11_store.specs.declared.store.StoreError.{StoreError}
 use Rattle.p11_store.specs.declared.store.StoreError.TheVariants as stores
 use Rattle.p11_panel.specs.Calls.Sizes.{is_size}
@@ -94,6 +99,11 @@ HandsFront text out out' = out' ≡ fronted (min (length text) (length out.bytes
 abbrev pub HandsWanted : Status → Option (List ℕ) → Lent → Lent → Type 0
 HandsWanted status asked out out' =
     MatchOption asked ((status ≡ NoFile) × (out' ≡ out)) (λ text. HandsText status text out out')
+
+-- the lines of a machine's devices are handed out, or there is no memory for them and nothing is written
+abbrev pub HandsDevices : Status → State → Lent → Lent → Type 0
+HandsDevices status s out out' =
+    HandsText status (text_of {A = Global} (answers.Devices (shown_devices s))) out out' ⊎ ((status ≡ NoMemory) × (out' ≡ out))
 
 -- a machine can have these sizes, and C's number is one of a manner
 abbrev pub can_open : ℕ → ℕ → ℕ → Bool

@@ -8,15 +8,17 @@ ghost use Rattle.p11_console.specs.Steps.{status_of};
 ghost use Rattle.p11_console.specs.Typing.{rested};
 ghost use Rattle.p11_c.specs.Calls.{lent};
 ghost use Rattle.p11_c.specs.HeldCalls.{HandsText};
-ghost use Rattle.p11_c.specs.SeatCalls.{OnConsole, OpensConsole, DoneOr, TakesFront, HandsFront, HandsWanted, wished};
+ghost use Rattle.p11_c.specs.Registers.{told_registers};
+ghost use Rattle.p11_c.specs.SeatCalls.{OnConsole, OpensConsole, DoneOr, TakesFront, HandsFront, HandsWanted, HandsDevices, wished};
 ghost use Rattle.p11_c.specs.SeatCalls.{StepsTelling, TakesBy, error_of, number_of_bool};
 ghost use Rattle.p11_c.specs.Statuses.{number_of_status};
 ghost use Rattle.p11_c.specs.declared.status.Status.{Status};
 
 use crate::console_handle::{ConsoleHandle, new_seat};
-use crate::handing::{hand_front, hand_wanted};
+use crate::handing::{hand_devices, hand_front, hand_wanted};
 use crate::handle::hand_text;
 use crate::host_words::{number_of_bool, number_of_want};
+use crate::registers::{Registers, tell_registers};
 use crate::status::Status;
 use std::alloc::Global;
 
@@ -617,23 +619,52 @@ pub extern "C" fn p11_console_status(
     Status::Done.number()
 }
 
-/// Tells the program counter of the console's machine.
+/// Tells the registers of the console's machine.
 ///
 /// # Errors
 ///
 /// The number of a `Status`, and nothing is written.
 #[unsafe(no_mangle)]
-pub extern "C" fn p11_console_pc(alloc: Global, handle: &mut ConsoleHandle, pc: &mut u32) -> i32
-    ensures { OnConsole (λ c status c'. (status ≡ Status.Done) × (c' ≡ c)
-        × (pc.new ≡ c.machine.processor.registers.pc)) (pc.new ≡ pc.old)
+pub extern "C" fn p11_console_regs(
+    alloc: Global,
+    handle: &mut ConsoleHandle,
+    regs: &mut Registers,
+) -> i32
+    ensures { OnConsole (λ c status c'. (status ≡ Status.Done) × (c' ≡ c) × (regs.new ≡ told_registers c.machine))
+        (regs.new ≡ regs.old) handle.old.slot.held result handle.new.slot.held }
+{
+    let Some(seat) = handle.take(alloc) else {
+        return Status::NoMachine.number();
+    };
+    *regs = tell_registers(seat.panel());
+    handle.put(seat);
+    Status::Done.number()
+}
+
+/// Hands out the lines that `device` answers: the clock, the console line, the disk controller, each of the eight drives,
+/// memory management and who asks for the bus.
+///
+/// # Errors
+///
+/// The number of a `Status`: `NoMemory`, and nothing is written. Too small a buffer is told with the length that is wanted, and
+/// nothing else is written.
+#[unsafe(no_mangle)]
+pub extern "C" fn p11_console_devices(
+    alloc: Global,
+    handle: &mut ConsoleHandle,
+    text: &mut [u8],
+    text_length: &mut usize,
+) -> i32
+    ensures { OnConsole (λ c status c'. (c' ≡ c) × HandsDevices status c.machine
+        (lent text.old text_length.old) (lent text.new text_length.new)) (lent text.new text_length.new ≡ lent text.old text_length.old)
         handle.old.slot.held result handle.new.slot.held }
 {
     let Some(seat) = handle.take(alloc) else {
         return Status::NoMachine.number();
     };
-    *pc = seat.pc();
+    let status = hand_devices(alloc, seat.panel(), text, text_length);
     handle.put(seat);
-    Status::Done.number()
+    status.number()
 }
 
 /// Drops the console that the handle holds, with its machine, if it holds one.

@@ -195,19 +195,17 @@ impl Desk {
     }
 
     /// How many keys wait for the machine to take them.
-    pub(crate) fn keys_waiting(&mut self, alloc: Global) -> u32
-        ensures value { result ≡ (machine_devices_of self.old.machine).keys }
-        ensures state { self.new ≡ self.old }
+    pub(crate) fn keys_waiting(&self) -> u32
+        ensures { result ≡ (machine_devices_of self.now.machine).keys }
     {
-        keys_waiting(alloc, &mut self.panel)
+        keys_waiting(&self.panel)
     }
 
     /// The registers of the machine.
-    pub(crate) fn registers(&mut self, alloc: Global) -> Registers
-        ensures value { result ≡ told_registers self.old.machine }
-        ensures state { self.new ≡ self.old }
+    pub(crate) fn registers(&self) -> Registers
+        ensures { result ≡ told_registers self.now.machine }
     {
-        tell_registers(alloc, &mut self.panel)
+        tell_registers(&self.panel)
     }
 
     /// The text of the last answers.

@@ -1,10 +1,13 @@
 // What is handed out of a console.
 ghost use Rattle.std.specs.Prelude.{option_copied};
 ghost use Rattle.p11_c.specs.Calls.{lent};
-ghost use Rattle.p11_c.specs.SeatCalls.{HandsFront, HandsWanted};
+ghost use Rattle.p11_c.specs.SeatCalls.{HandsDevices, HandsFront, HandsWanted};
 
 use crate::handle::hand_text;
+use crate::run::answer_text;
 use crate::status::Status;
+use p11_panel::{Answer, Panel};
+use std::alloc::Global;
 
 /// Copies as much of a text into the caller's buffer, from its front, as that has room for; it is told how many bytes.
 pub(crate) fn hand_front(text: &[u8], out: &mut [u8], out_length: &mut usize)
@@ -23,4 +26,21 @@ pub(crate) fn hand_wanted(asked: Option<&[u8]>, out: &mut [u8], out_length: &mut
         Some(text) => hand_text(text, out, out_length),
         None => Status::NoFile,
     }
+}
+
+/// Copies the lines of the devices into the caller's buffer, if that has room for them; it is told the length.
+pub(crate) fn hand_devices(
+    alloc: Global,
+    panel: &Panel,
+    out: &mut [u8],
+    out_length: &mut usize,
+) -> Status
+    ensures { HandsDevices result panel.now (lent out.old out_length.old) (lent out.new out_length.new) }
+{
+    let answer = Answer::Devices(panel.devices());
+    let (status, text) = answer_text(alloc, &answer);
+    if status != Status::Done {
+        return Status::NoMemory;
+    }
+    hand_text(text.as_slice(), out, out_length)
 }

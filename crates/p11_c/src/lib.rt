@@ -302,10 +302,10 @@ pub extern "C" fn p11_regs(alloc: Global, handle: &mut Handle, regs: &mut Regist
         × (regs.new ≡ told_registers kept.machine))
         (regs.new ≡ regs.old) handle.old.slot.held result handle.new.slot.held }
 {
-    let Some(mut desk) = handle.take(alloc) else {
+    let Some(desk) = handle.take(alloc) else {
         return Status::NoMachine.number();
     };
-    *regs = desk.registers(alloc);
+    *regs = desk.registers();
     handle.put(desk);
     Status::Done.number()
 }
@@ -321,10 +321,10 @@ pub extern "C" fn p11_keys_waiting(alloc: Global, handle: &mut Handle, keys: &mu
         × (keys.new ≡ (machine_devices_of kept.machine).keys))
         (keys.new ≡ keys.old) handle.old.slot.held result handle.new.slot.held }
 {
-    let Some(mut desk) = handle.take(alloc) else {
+    let Some(desk) = handle.take(alloc) else {
         return Status::NoMachine.number();
     };
-    *keys = desk.keys_waiting(alloc);
+    *keys = desk.keys_waiting();
     handle.put(desk);
     Status::Done.number()
 }

@@ -1,11 +1,9 @@
 // The registers as C sees them.
 ghost use Rattle.std.specs.Prelude.{◌≡◌};
-ghost use Rattle.p11_cpu.specs.OperatorDevices.{machine_devices_of, status_0_of, status_2_of};
-ghost use Rattle.p11_panel.specs.Shown.{registers_of};
+ghost use Rattle.p11_cpu.specs.OperatorDevices.{machine_devices_of};
 ghost use Rattle.p11_c.specs.Registers.{number_of_mark, told_registers};
 
-use p11_panel::{Answer, Command, ManagementRegisters, Mark, Panel};
-use std::alloc::Global;
+use p11_panel::{Mark, Panel};
 
 /// The registers and status words of the processor and of memory management, between turns.
 #[repr(C)]
@@ -43,38 +41,13 @@ fn number_of_mark(mark: Mark) -> u16
     }
 }
 
-/// What REGS shows.
-fn shown_registers(alloc: Global, panel: &mut Panel) -> p11_panel::Registers
-    ensures value { result ≡ registers_of panel.old }
-    ensures state { panel.new ≡ panel.old }
+/// The registers of a machine.
+#[tactic(auto, unfolding(crate::specs::Registers::told_registers, p11_panel::specs::Shown::shown_devices))]
+pub(crate) fn tell_registers(panel: &Panel) -> Registers
+    ensures { result ≡ told_registers panel.now }
 {
-    match panel.act(alloc, &Command::Regs) {
-        Answer::Registers(shown) => shown,
-        _ => unreachable!(),
-    }
-}
-
-/// What DEVICE shows of memory management.
-#[tactic(auto, unfolding(p11_panel::specs::Shown::shown_devices))]
-fn shown_management(alloc: Global, panel: &mut Panel) -> ManagementRegisters
-    ensures status_0 { result.status_0 ≡ status_0_of panel.old }
-    ensures status_2 { result.status_2 ≡ status_2_of panel.old }
-    ensures state { panel.new ≡ panel.old }
-{
-    match panel.act(alloc, &Command::Device) {
-        Answer::Devices(shown) => shown.management,
-        _ => unreachable!(),
-    }
-}
-
-/// The registers of a machine, which stays as it is.
-#[tactic(auto, unfolding(crate::specs::Registers::told_registers))]
-pub(crate) fn tell_registers(alloc: Global, panel: &mut Panel) -> Registers
-    ensures value { result ≡ told_registers panel.old }
-    ensures state { panel.new ≡ panel.old }
-{
-    let shown = shown_registers(alloc, panel);
-    let management = shown_management(alloc, panel);
+    let shown = panel.registers();
+    let management = panel.devices().management;
     let general = shown.general;
     Registers {
         turns: shown.turns,
@@ -89,14 +62,10 @@ pub(crate) fn tell_registers(alloc: Global, panel: &mut Panel) -> Registers
     }
 }
 
-/// How many keys wait for a machine to take them; it stays as it is.
+/// How many keys wait for a machine to take them.
 #[tactic(auto, unfolding(p11_panel::specs::Shown::shown_devices))]
-pub(crate) fn keys_waiting(alloc: Global, panel: &mut Panel) -> u32
-    ensures value { result ≡ (machine_devices_of panel.old).keys }
-    ensures state { panel.new ≡ panel.old }
+pub(crate) fn keys_waiting(panel: &Panel) -> u32
+    ensures { result ≡ (machine_devices_of panel.now).keys }
 {
-    match panel.act(alloc, &Command::Device) {
-        Answer::Devices(shown) => shown.bus.keys,
-        _ => unreachable!(),
-    }
+    panel.devices().bus.keys
 }

@@ -298,10 +298,10 @@ impl Seat {
         u32::from(self.console.status())
     }
 
-    /// The program counter.
-    pub(crate) fn pc(&self) -> u32
-        ensures { result ≡ self.now.machine.processor.registers.pc }
+    /// The machine.
+    pub(crate) fn panel(&self) -> &Panel
+        ensures { result.now ≡ self.now.machine }
     {
-        u32::from(self.console.panel().pc())
+        self.console.panel()
     }
 }

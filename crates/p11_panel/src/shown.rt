@@ -7,9 +7,10 @@ use p11_lines::{Devices, ManagementRegisters, Mark, Registers};
 use std::alloc::Allocator;
 
 impl<A: Allocator> Panel<A> {
-    /// What the processor shows of itself.
+    /// What the line `regs` shows of the processor: its registers, each a word of 16 bits, its status word, the turns since the
+    /// machine was made, and what it does between turns.
     #[tactic(auto, unfolding(crate::specs::Shown::registers_of))]
-    pub(crate) fn registers(&self) -> Registers
+    pub fn registers(&self) -> Registers
         ensures { result ≡ registers_of self.now }
     {
         let registers = self.machine.regs();
@@ -25,9 +26,9 @@ impl<A: Allocator> Panel<A> {
         }
     }
 
-    /// What the devices show of themselves.
+    /// What the line `device` shows of the devices on the bus and of memory management.
     #[tactic(auto, unfolding(crate::specs::Shown::shown_devices))]
-    pub(crate) fn devices(&self) -> Devices
+    pub fn devices(&self) -> Devices
         ensures { result ≡ shown_devices self.now }
     {
         Devices {
