@@ -3,6 +3,7 @@ use crate::ending::Cause;
 use crate::files::Files;
 use crate::folder::names_of;
 use crate::journal::Journal;
+use crate::outlet::Outlet;
 use crate::window::window_in;
 use p11_console::{Console, Want};
 use std::fs::File;
@@ -31,8 +32,8 @@ pub(crate) struct Host<'a, L: Ledger> {
     /// Whether a person types: then a read doesn't wait, and gives nothing where nothing is pressed.
     pub(crate) is_typed: bool,
     pub(crate) has_read_fault: bool,
-    pub(crate) screen: Stdout,
-    pub(crate) errors: Stderr,
+    pub(crate) screen: Outlet<Stdout>,
+    pub(crate) errors: Outlet<Stderr>,
     pub(crate) files: Files<'a, L>,
     pub(crate) journal: Journal,
     /// The folder below which names are looked up.
@@ -106,13 +107,9 @@ impl<L: Ledger> Host<'_, L> {
         }
         self.console.kept(count);
         let count = self.console.screen().len();
-        if self.screen.write_all(self.console.screen()).is_err() {
-            return Err(Cause::Writing);
-        }
+        self.screen.write(self.rt.alloc(), self.console.screen())?;
         self.console.shown(count);
-        if self.errors.write_all(self.console.errors()).is_err() {
-            return Err(Cause::Writing);
-        }
+        self.errors.write(self.rt.alloc(), self.console.errors())?;
         self.console.told();
         Ok(())
     }

@@ -12,6 +12,7 @@ mod files;
 mod folder;
 mod host;
 mod journal;
+mod outlet;
 mod past;
 mod remark;
 mod settings;
@@ -21,6 +22,7 @@ use crate::ending::{Cause, ending};
 use crate::files::Files;
 use crate::host::Host;
 use crate::journal::Journal;
+use crate::outlet::Outlet;
 use crate::past::open_past;
 use crate::settings::{Launch, settings};
 use p11_console::{Console, Manner, Settings};
@@ -98,8 +100,8 @@ fn hold<L: Ledger>(rt: &HostRuntime, launch: &Launch<'_>, blank: Blank) -> Resul
         input,
         is_typed: manner == Manner::Typed,
         has_read_fault: false,
-        screen: rt.stdout(),
-        errors: rt.stderr(),
+        screen: Outlet::new(rt.stdout(), launch.is_raw),
+        errors: Outlet::new(rt.stderr(), launch.is_raw),
         files: Files::new(rt, store, launch.script),
         journal: Journal::open(rt, launch)?,
         top: launch.files,

@@ -30,6 +30,8 @@ pub(crate) struct Launch<'a> {
     pub(crate) is_strict: bool,
     /// Whether `save` writes nothing.
     pub(crate) is_saveless: bool,
+    /// Whether all that is typed passes to the terminal.
+    pub(crate) is_raw: bool,
     pub(crate) script: Option<&'a str>,
 }
 
@@ -72,7 +74,7 @@ struct Choice {
 }
 
 /// The options, in the order in which the help shows them.
-static CHOICES: [Choice; 10] = [
+static CHOICES: [Choice; 11] = [
     Choice {
         name: "memory",
         value: Value::Number("K"),
@@ -114,6 +116,12 @@ static CHOICES: [Choice; 10] = [
         value: Value::Nothing,
         beside: Beside::Any,
         help: "Answer each save, and write nothing; the end says what it would have been",
+    },
+    Choice {
+        name: "raw",
+        value: Value::Nothing,
+        beside: Beside::Any,
+        help: "Write what the machine types as it is, also what a terminal acts on",
     },
     Choice {
         name: "batch",
@@ -228,6 +236,7 @@ pub(crate) fn settings<'a>(alloc: Global, words: &'a [String]) -> Result<Launch<
         is_batch: matches.get_flag("batch"),
         is_strict: matches.get_flag("strict"),
         is_saveless: matches.get_flag("no-save"),
+        is_raw: matches.get_flag("raw"),
         script: matches.get_str("SCRIPT"),
     })
 }

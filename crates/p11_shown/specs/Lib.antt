@@ -1,0 +1,3 @@
+-- Which bytes pass to a terminal, and how the others are shown.
+pub mod Sequences
+pub mod Screen

@@ -1,0 +1,12 @@
+//! Which bytes of a guest pass to a terminal.
+//!
+//! Nothing here reads or writes. `Screen::pass` takes what is typed for a screen, cut anywhere, and gives what a terminal may
+//! be given: what programs for a VT52, a VT100 or a VT102 need. All else is shown by printing bytes.
+#![tactic(auto)]
+
+mod phase;
+mod readable;
+mod screen;
+
+pub use phase::{Phase, Verdict};
+pub use screen::Screen;
