@@ -1,6 +1,6 @@
 -- The sequences that pass to a terminal: those by which programs for a VT52, a VT100 or a VT102 write on its screen. None of them makes
 -- a terminal answer, or does anything beside its screen, its tabs and what its keys send.
-use Rattle.std.specs.Prelude.{ℕ, ◌+◌, ◌*◌, ◌-◌, Bool, true, false, ◌&&◌, ◌||◌, not, nat_le, nat_eq, List, [], ◌∷◌, Option, Some, None, unwrap_or, if◌then◌else◌}
+use Rattle.std.specs.Prelude.{ℕ, ◌+◌, ◌*◌, ◌-◌, Bool, true, false, ◌&&◌, ◌||◌, nat_le, nat_eq, List, [], ◌∷◌, unwrap_or, if◌then◌else◌}
 use Rattle.std.specs.Map.{lookup}
 use Rattle.p11_shown.specs.declared.phase.Phase.{Phase}
 use Rattle.p11_shown.specs.declared.phase.Phase.TheVariants.{Start, Escape, Size, Set, Row, Column, Bracket, Numbers}

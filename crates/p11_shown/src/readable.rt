@@ -43,10 +43,7 @@ pub(crate) fn show<A: Allocator>(out: &mut Vec<u8, A>, byte: u8) -> Result<(), A
 
 /// Adds bytes by printing ones.
 #[tactic(auto, unfolding(crate::specs::Screen::all_readable))]
-pub(crate) fn show_all<A: Allocator>(
-    out: &mut Vec<u8, A>,
-    bytes: &[u8],
-) -> Result<(), AllocError>
+pub(crate) fn show_all<A: Allocator>(out: &mut Vec<u8, A>, bytes: &[u8]) -> Result<(), AllocError>
     ensures { OnOk result (out.new.items ≡ out.old.items ++ all_readable bytes.now) }
 {
     let mut rest = bytes;

@@ -112,11 +112,7 @@ impl Screen {
     }
 
     /// Takes a byte that is of no sequence, or begins one.
-    fn take_alone<A: Allocator>(
-        &mut self,
-        byte: u8,
-        out: &mut Vec<u8, A>,
-    ) -> Result<(), AllocError>
+    fn take_alone<A: Allocator>(&mut self, byte: u8, out: &mut Vec<u8, A>) -> Result<(), AllocError>
         requires { self.old ≡ fresh }
         ensures state { OnOk result (self.new ≡ (taken_alone byte).0) }
         ensures out { OnOk result (out.new.items ≡ out.old.items ++ (taken_alone byte).1) }
