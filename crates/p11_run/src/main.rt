@@ -18,6 +18,7 @@ use crate::finish::finish;
 use crate::playing::play_script;
 use crate::script_reader::ScriptReader;
 use crate::settings::{Launch, settings};
+use crate::told::{ToldReader, ToldWriter};
 use p11_files::FileStore;
 use p11_panel::Panel;
 use std::marker::Brand;
@@ -84,6 +85,7 @@ fn run_on<L: Ledger>(
     requires some { 0 < blank.parts }
 {
     let mut store = FileStore::<L>::new(rt, blank);
-    let script = ScriptReader::open(rt, launch)?;
-    play_script(rt.alloc(), panel, &mut store, script, io::writer(rt))
+    let mut script = ToldReader::new(ScriptReader::open(rt, launch)?);
+    let mut output = ToldWriter::new(io::writer(rt));
+    play_script(rt.alloc(), panel, &mut store, &mut script, &mut output)
 }

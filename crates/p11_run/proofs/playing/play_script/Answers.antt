@@ -1,25 +1,21 @@
 use Rattle.std.proofs.Common.{refl}
-use Rattle.p11_run.proofs.Sessions.{unread_is, unwritten_is, fault_is, not_ok, same_err, plays_all, plays_to_fault, plays_to_limit, plays_to_break}
+use Rattle.p11_run.proofs.Sessions.{fault_is, not_ok, same_err}
 use Rattle.p11_run.proofs.playing.play_script.Goals as goal
 
 pub returns-in-Ok-clause-ok : goal.returns-in-Ok-clause-ok
-returns-in-Ok-clause-ok g c =
-    plays_all _ _ _ _ _ _ _ _ _ (unread_is _ _ _ c.new-script.ensures.inner c.new-script.ensures.reads) (unwritten_is _ _ _ c.new-output.ensures.inner c.new-output.ensures.writes) _ c.in-Ok.ensures.ok
+returns-in-Ok-clause-ok g c = let h = c.in-Ok.ensures.ok in (h.0, h.1, _, h.2, h.3, h.4, h.5)
 
-pub returns-clause-fault : goal.returns-clause-fault
-returns-clause-fault g c = (c.in-Err.fault, refl)
+pub returns-in-Err-clause-fault : goal.returns-in-Err-clause-fault
+returns-in-Err-clause-fault g c = (c.in-Err.fault, refl)
 
-pub returns-clause-reading : goal.returns-clause-reading
-returns-clause-reading g c h =
-    plays_to_fault _ _ _ _ _ _ _ _ _ (unread_is _ _ _ c.new-script.ensures.inner c.new-script.ensures.reads) (unwritten_is _ _ _ c.new-output.ensures.inner c.new-output.ensures.writes) (c.in-Err.ensures.reading (same_err _ _ (fault_is c.in-Err.fault _ h)))
+pub returns-in-Err-clause-reading : goal.returns-in-Err-clause-reading
+returns-in-Err-clause-reading g c h = c.in-Err.ensures.reading (same_err _ _ (fault_is c.in-Err.fault _ h))
 
-pub returns-clause-long : goal.returns-clause-long
-returns-clause-long g c h =
-    plays_to_limit _ _ _ _ _ _ _ _ _ (unread_is _ _ _ c.new-script.ensures.inner c.new-script.ensures.reads) (unwritten_is _ _ _ c.new-output.ensures.inner c.new-output.ensures.writes) (c.in-Err.ensures.long (same_err _ _ (fault_is c.in-Err.fault _ h)))
+pub returns-in-Err-clause-long : goal.returns-in-Err-clause-long
+returns-in-Err-clause-long g c h = c.in-Err.ensures.long (same_err _ _ (fault_is c.in-Err.fault _ h))
 
-pub returns-clause-broke : goal.returns-clause-broke
-returns-clause-broke g c h =
-    plays_to_break _ _ _ _ _ _ _ _ _ (unread_is _ _ _ c.new-script.ensures.inner c.new-script.ensures.reads) (unwritten_is _ _ _ c.new-output.ensures.inner c.new-output.ensures.writes) (c.in-Err.ensures.broke (same_err _ _ (fault_is c.in-Err.fault _ h)))
+pub returns-in-Err-clause-broke : goal.returns-in-Err-clause-broke
+returns-in-Err-clause-broke g c h = c.in-Err.ensures.broke (same_err _ _ (fault_is c.in-Err.fault _ h))
 
 pub returns-in-Ok-clause-fault : goal.returns-in-Ok-clause-fault
 returns-in-Ok-clause-fault g c = tt
