@@ -7,7 +7,7 @@ import subprocess
 from ctypes import c_char_p, c_int32, c_size_t, c_uint16, c_uint32, c_uint64, c_void_p
 
 HERE = os.path.dirname(os.path.realpath(__file__))
-DONE, TOO_SMALL, NO_MACHINE = 0, 4, 6
+DONE, TOO_SMALL, NO_FILE = 0, 4, 7
 STATUSES = {
     1: "there is no memory for it",
     2: "no machine has these sizes: 4 to 124 thousand words in steps of 4, and 0 to 4096 decoded instructions",
