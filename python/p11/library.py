@@ -76,12 +76,13 @@ def find() -> str:
         if built.returncode:
             raise OSError(f"{build} can't build the library")
         return os.path.join(os.path.dirname(built.stdout.strip()), "libp11.so")
-    # PREFIX/share/doc/p11/python/p11 is where an installation has this module
-    folder = os.path.join(os.path.realpath(os.path.join(top, "..", "..", "..")), "lib")
-    found = glob.glob(os.path.join(folder, "p11", "libp11.so")) + glob.glob(os.path.join(folder, "*", "p11", "libp11.so"))
-    if not found:
-        raise OSError(f"there is no {own}, and no p11/libp11.so below {folder}: P11_LIBRARY names the library")
-    return found[0]
+    # an installation has this module in PREFIX/libexec/p11/python/p11 and in PREFIX/share/doc/p11/python/p11
+    folders = [os.path.realpath(os.path.join(top, above, "lib")) for above in ("../..", "../../..")]
+    for folder in folders:
+        found = glob.glob(os.path.join(folder, "p11", "libp11.so")) + glob.glob(os.path.join(folder, "*", "p11", "libp11.so"))
+        if found:
+            return found[0]
+    raise OSError(f"there is no {own}, and no p11/libp11.so below {' or '.join(folders)}: P11_LIBRARY names the library")
 
 
 @functools.lru_cache(maxsize=None)
