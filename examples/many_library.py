@@ -1,5 +1,6 @@
 """Plays scripts by the library for C, in worker processes on this host. A module for many; it isn't run by itself."""
 import argparse
+import json
 import multiprocessing
 import multiprocessing.connection
 import os
@@ -15,6 +16,8 @@ HERE = os.path.dirname(os.path.realpath(__file__))
 sys.path[:0] = [os.path.join(HERE, "python"), os.path.join(HERE, "..", "python")]
 from p11 import Failed, Machine  # noqa: E402 (found by the line above)
 
+# The file of the results that has a line for each script that is played.
+RECORDS = "records.jsonl"
 # The most scripts that a worker gets at a time.
 SHARE = 100
 # The longest file that p11 mounts or loads.
@@ -52,15 +55,24 @@ def inputs(work, script, names):
     return {name: read(path) for name, path in found.items() if is_readable(path)}
 
 
-def play(work, script, size):
-    """Plays a script, if the files that it names are there."""
+def keep(work, script, given, saved):
+    """Writes the files that a script has saved, where they are new or differ."""
+    for name, held in saved.items():
+        if held is not None and held != given.get(name):
+            place = work.result(script, "files", name)
+            os.makedirs(os.path.dirname(place), exist_ok=True)
+            write(place, held)
+
+
+def play(work, script, size, told):
+    """Plays a script, if the files that it names are there: its record, a line."""
     reads, writes = named_in(work.script(script))
-    if work.fault_of_names(script, reads, writes):
-        return
-    home = work.result(script)
-    shutil.rmtree(home, ignore_errors=True)
-    os.mkdir(home)
-    given, saved, status, answers = inputs(work, script, reads), {}, 0, b""
+    fault = work.fault_of_names(script, reads, writes)
+    if fault:
+        told.not_played(script, fault)
+        return ""
+    given, saved, status, answers, errors = inputs(work, script, reads), {}, 0, b"", ""
+    shutil.rmtree(work.result(script), ignore_errors=True)
     began = time.monotonic()
     try:
         with Machine(*size) as machine:
@@ -69,21 +81,15 @@ def play(work, script, size):
             answers = machine.script(read(work.script(script)))
             saved = {name: machine.file(name) for name in writes}
     except Failed as cause:
-        status = STATUSES.get(cause.number, cause.number)
-        write(os.path.join(home, "errors"), f"{cause}\n".encode())
-    write(os.path.join(home, "seconds"), b"%.3f\n" % (time.monotonic() - began))
-    for name, held in saved.items():
-        if held is not None and held != given.get(name):
-            place = os.path.join(home, "files", name)
-            os.makedirs(os.path.dirname(place), exist_ok=True)
-            write(place, held)
-    write(os.path.join(home, "answers"), answers)
-    write(os.path.join(home, "status"), b"%d\n" % status)
-    write(work.mark(script), b"")
+        status, errors = STATUSES.get(cause.number, cause.number), str(cause)
+    record = {"script": script.path, "status": status, "seconds": round(time.monotonic() - began, 6), "answers": answers.decode("latin-1")}
+    keep(work, script, given, saved)
+    told.is_played(script, work.fault_of_answers(script, status, errors, answers), answers)
+    return json.dumps({**record, "errors": errors} if errors else record) + "\n"
 
 
 def work_on(work, size, pipe, others):
-    """A worker: plays the scripts that it is given and that aren't played yet, and tells what became of them."""
+    """A worker: plays the scripts that it is given; tells their records, and what became of them."""
     signal.signal(signal.SIGINT, signal.SIG_IGN)
     signal.signal(signal.SIGTERM, signal.SIG_DFL)
     for other in others:
@@ -91,11 +97,8 @@ def work_on(work, size, pipe, others):
     try:
         while True:
             scripts, told = pipe.recv(), Told()
-            for script in scripts:
-                if not work.is_played(script):
-                    play(work, script, size)
-                told.add(work, script)
-            pipe.send((len(scripts), told))
+            records = "".join([play(work, script, size, told) for script in scripts])
+            pipe.send((len(scripts), records, told))
     except (EOFError, BrokenPipeError):
         # what has started this is gone
         pass
@@ -141,22 +144,46 @@ def answer(worker, pipe):
     return told
 
 
+def earlier(work, scripts, told):
+    """Those of the scripts that have no record yet, and what became of the others; a record that was cut off is taken away."""
+    by_path, path = {script.path: script for script in scripts}, os.path.join(work.results, RECORDS)
+    with open(path, "ab+") as file:
+        file.seek(0)
+        whole = 0
+        for line in file:
+            if not line.endswith(b"\n"):
+                break
+            whole += len(line)
+            record = json.loads(line)
+            script = by_path.pop(record["script"], None)
+            if script:
+                answers = record["answers"].encode("latin-1")
+                fault = work.fault_of_answers(script, record["status"], record.get("errors", ""), answers)
+                told.is_played(script, fault, answers)
+        file.truncate(whole)
+    return list(by_path.values())
+
+
 def play_all(work, scripts, jobs, rest):
-    """Plays those that aren't played yet, with these options of p11, and tells what became of all."""
-    size, told, progress, done = sizes(rest), Told(), Progress(len(scripts)), 0
-    count = min(jobs or os.cpu_count(), len(scripts))
-    share = min(SHARE, len(scripts) // (8 * count) + 1)
+    """Plays those that have no record yet, with these options of p11, and tells what became of all."""
+    size, told = sizes(rest), Told()
+    scripts = earlier(work, scripts, told)
+    count, done = min(jobs or os.cpu_count(), len(scripts)), 0
+    share = min(SHARE, len(scripts) // (8 * count or 1) + 1)
     shares = (scripts[at:at + share] for at in range(0, len(scripts), share))
-    workers = start(work, size, count)
+    workers, progress = start(work, size, count), Progress(len(scripts))
     for pipe, first in zip(workers, shares):
         pipe.send(first)
-    while done < len(scripts):
-        for pipe in multiprocessing.connection.wait(list(workers)):
-            played, of_these = answer(workers[pipe], pipe)
-            done += played
-            told.join(of_these)
-            progress.show(done, len(told.failed))
-            following = next(shares, None)
-            if following:
-                pipe.send(following)
+    with open(os.path.join(work.results, RECORDS), "a") as file:
+        while done < len(scripts):
+            for pipe in multiprocessing.connection.wait(list(workers)):
+                played, records, of_these = answer(workers[pipe], pipe)
+                file.write(records)
+                file.flush()
+                done += played
+                told.join(of_these)
+                progress.show(done, len(told.failed))
+                following = next(shares, None)
+                if following:
+                    pipe.send(following)
     return told

@@ -7,9 +7,11 @@ import subprocess
 import sys
 import tempfile
 
-from many_scripts import Fault, named_in
+from many_scripts import Fault, Told, named_in, read
 
 HERE = os.path.dirname(os.path.realpath(__file__))
+# What a script's folder has until it is judged.
+GIVEN = ("inputs", "script", "play", "p11")
 # The most tasks that Slurm takes in one array where it isn't set otherwise.
 TASKS = 1000
 
@@ -58,6 +60,10 @@ def find_program():
     return built.stdout.strip()
 
 
+def is_played(work, script):
+    return os.path.exists(os.path.join(work.results, ".played", script.name))
+
+
 def link(file, to):
     """The file under another name, by a link where that can be."""
     os.makedirs(os.path.dirname(to), exist_ok=True)
@@ -88,13 +94,14 @@ def lay_out(work, script):
 
 def prepare(work, scripts, rest):
     """Lays out the scripts that aren't played yet, to be played with these options of p11: those that can be."""
+    os.makedirs(os.path.join(work.results, ".played"), exist_ok=True)
     for name in (".p11", ".play"):
         if os.path.exists(os.path.join(work.results, name)):
             os.unlink(os.path.join(work.results, name))
     shutil.copy(find_program(), os.path.join(work.results, ".p11"))
     with open(os.path.join(work.results, ".play"), "w") as file:
         file.write(PLAY.replace("OPTIONS", shlex.join(rest)))
-    return [script for script in scripts if not work.is_played(script) and lay_out(work, script)]
+    return [script for script in scripts if not is_played(work, script) and lay_out(work, script)]
 
 
 def hosts_of(path):
@@ -163,7 +170,31 @@ def play(work, left, jobs, hosts):
         before = None
         while left and len(left) != before:
             parallel(work, left, jobs, hosts, ssh_words(sockets))
-            before, left = len(left), [script for script in left if not work.is_played(script)]
+            before, left = len(left), [script for script in left if not is_played(work, script)]
+
+
+def clear(work, script):
+    """Takes away what a played script's folder was given."""
+    for place in (work.result(script, name) for name in GIVEN):
+        if os.path.isdir(place):
+            shutil.rmtree(place)
+        elif os.path.exists(place):
+            os.unlink(place)
+
+
+def judge(work, scripts):
+    """What became of these."""
+    told = Told()
+    for script in scripts:
+        if is_played(work, script):
+            clear(work, script)
+            status, answers = int(read(work.result(script, "status"))), read(work.result(script, "answers"))
+            errors = work.result(script, "errors")
+            said = read(errors).decode("latin-1") if os.path.exists(errors) else ""
+            told.is_played(script, work.fault_of_answers(script, status, said, answers), answers)
+        else:
+            told.not_played(script, work.fault_of_names(script, *named_in(work.script(script))))
+    return told
 
 
 def slurm(work, left, jobs):

@@ -1,11 +1,8 @@
 """The scripts that p11-many plays, the files that they name, and what became of them. A module for many; it isn't run by itself."""
 import collections
 import os
-import shutil
 import sys
 
-# What a script's folder has until it is judged.
-GIVEN = ("inputs", "script", "play", "p11")
 SHOWN = 20
 
 
@@ -81,13 +78,6 @@ class Work:
     def result(self, script, *parts):
         return os.path.join(self.results, script.name, *parts)
 
-    def mark(self, script):
-        """The file that is there once the script is played."""
-        return os.path.join(self.results, ".played", script.name)
-
-    def is_played(self, script):
-        return os.path.exists(self.mark(script))
-
     def fault_of_names(self, script, reads, writes):
         """Why a script can't be played with the files that it names, if it can't."""
         for name in reads + writes:
@@ -97,31 +87,14 @@ class Work:
                 return f"names {name}, and there is no file {self.input(script, name)}"
         return None
 
-    def clear(self, script):
-        """Takes away what a played script's folder was given."""
-        for place in (self.result(script, name) for name in GIVEN):
-            if os.path.isdir(place):
-                shutil.rmtree(place)
-            elif os.path.exists(place):
-                os.unlink(place)
-
-    def judge(self, script):
-        """Why a script has failed, if it has."""
-        if not self.is_played(script):
-            return self.fault_of_names(script, *named_in(self.script(script))) or "wasn't played to its end; --resume plays it"
-        self.clear(script)
-        status, errors = read(self.result(script, "status")).decode().strip(), self.result(script, "errors")
+    def fault_of_answers(self, script, status, errors, answers):
+        """Why a script that was played has failed, if it has."""
         wanted = self.script(script).removesuffix(".p11") + ".out"
-        if status != "0":
-            said = read(errors).decode("latin-1").strip() if os.path.exists(errors) else ""
-            return f"ended with status {status}" + (f": {said}" if said else "")
-        if os.path.exists(wanted) and read(wanted) != read(self.result(script, "answers")):
+        if status:
+            return f"ended with status {status}" + (f": {errors.strip()}" if errors.strip() else "")
+        if os.path.exists(wanted) and read(wanted) != answers:
             return f"answers other than {wanted}"
         return None
-
-    def refuses(self, script):
-        """Whether a line of a played script was refused."""
-        return self.is_played(script) and any(line.startswith(b"?") for line in read(self.result(script, "answers")).splitlines())
 
 
 class Told:
@@ -130,12 +103,14 @@ class Told:
     def __init__(self):
         self.played, self.failed, self.refused = 0, [], []
 
-    def add(self, work, script):
-        fault = work.judge(script)
-        self.played += work.is_played(script)
+    def not_played(self, script, fault):
+        self.failed.append((script.path, fault or "wasn't played to its end; --resume plays it"))
+
+    def is_played(self, script, fault, answers):
+        self.played += 1
         if fault:
             self.failed.append((script.path, fault))
-        if work.refuses(script):
+        if any(line.startswith(b"?") for line in answers.splitlines()):
             self.refused.append(script.path)
 
     def join(self, other):
