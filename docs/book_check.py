@@ -209,7 +209,7 @@ def dedented(text):
 
 
 class Places(html.parser.HTMLParser):
-    """The places of a page and the places to which it links."""
+    """The places of a page, and the places to which it links, with the files that it loads."""
 
     def __init__(self, page):
         super().__init__()
@@ -220,7 +220,7 @@ class Places(html.parser.HTMLParser):
         for name, value in attributes:
             if name == "id":
                 self.places.append(value)
-            elif name == "href":
+            elif name in ("href", "src"):
                 self.links.add(value)
 
 

@@ -7,7 +7,7 @@ import subprocess
 from ctypes import c_char_p, c_int32, c_size_t, c_uint16, c_uint32, c_uint64, c_void_p
 
 HERE = os.path.dirname(os.path.realpath(__file__))
-DONE, TOO_SMALL, NO_MACHINE = 0, 4, 6
+DONE, TOO_SMALL, NO_FILE = 0, 4, 7
 STATUSES = {
     1: "there is no memory for it",
     2: "no machine has these sizes: 4 to 124 thousand words in steps of 4, and 0 to 4096 decoded instructions",
@@ -76,12 +76,13 @@ def find() -> str:
         if built.returncode:
             raise OSError(f"{build} can't build the library")
         return os.path.join(os.path.dirname(built.stdout.strip()), "libp11.so")
-    # PREFIX/share/doc/p11/python/p11 is where an installation has this module
-    folder = os.path.join(os.path.realpath(os.path.join(top, "..", "..", "..")), "lib")
-    found = glob.glob(os.path.join(folder, "p11", "libp11.so")) + glob.glob(os.path.join(folder, "*", "p11", "libp11.so"))
-    if not found:
-        raise OSError(f"there is no {own}, and no p11/libp11.so below {folder}: P11_LIBRARY names the library")
-    return found[0]
+    # an installation has this module in PREFIX/libexec/p11/python/p11 and in PREFIX/share/doc/p11/python/p11
+    folders = [os.path.realpath(os.path.join(top, above, "lib")) for above in ("../..", "../../..")]
+    for folder in folders:
+        found = glob.glob(os.path.join(folder, "p11", "libp11.so")) + glob.glob(os.path.join(folder, "*", "p11", "libp11.so"))
+        if found:
+            return found[0]
+    raise OSError(f"there is no {own}, and no p11/libp11.so below {' or '.join(folders)}: P11_LIBRARY names the library")
 
 
 @functools.lru_cache(maxsize=None)

@@ -4,11 +4,13 @@ from ctypes import addressof
 from typing import Iterable, List, NamedTuple, Optional, Union
 
 from . import library
-from .library import DONE, TOO_SMALL, Failed, Handle, RegistersTold, Run
+from .library import DONE, NO_FILE, TOO_SMALL, Failed, Handle, RegistersTold, Run
 
 MARKS = ("ready", "waiting", "halted")
 REASONS = ("halt", "turns", "idle", "memory")
 MOST = 100_000_000
+# The name that the calls below have for a file of theirs in the machine's store.
+OWN = "(own)"
 # The usual loader of a pack: it reads the first sectors of drive 0 to 0, and goes there.
 LOADER = (0o12700, 0o177406, 0o12710, 0o177400, 0o12740, 5, 0o105710, 0o100376, 0o5007)
 NUMBERS = dict(r0=0, r1=1, r2=2, r3=3, r4=4, r5=5, sp=0o6, ksp=0o6, usp=0o10, pc=0o7, ps=0o11)
@@ -188,7 +190,7 @@ class Machine:
 
     def mount(self, drive: int, image: bytes = b"", write: bool = True) -> None:
         """Mounts a pack of these bytes, which are the machine's own from then on; fewer than an RK05 has are filled with zeros."""
-        self._with_file(f"mount {drive:o} pack {'rw' if write else 'ro'}", image)
+        self._with_file(f"mount {drive:o} {OWN} {'rw' if write else 'ro'}", image)
 
     def unmount(self, drive: int) -> None:
         """Takes a pack out; what `pack` didn't give is lost."""
@@ -196,7 +198,7 @@ class Machine:
 
     def load(self, tape: bytes) -> Optional[int]:
         """Loads an absolute paper tape: its start address, if it has one."""
-        start = self._with_file("load pack", tape).split()[2]
+        start = self._with_file(f"load {OWN}", tape).split()[2]
         return None if start == "none" else int(start, 8)
 
     def boot(self) -> None:
@@ -206,8 +208,8 @@ class Machine:
 
     def pack(self, drive: int) -> bytes:
         """The whole pack on a drive as it is now, 2,494,464 bytes."""
-        self.line(f"save {drive:o} pack")
-        held = self._handed(self._p11.p11_file, b"pack", 4)
+        self.line(f"save {drive:o} {OWN}")
+        held = self.file(OWN)
         self._forget()
         return held
 
@@ -215,13 +217,36 @@ class Machine:
         """The sectors that were written since the mount, in the order of their first writes."""
         return [int(number) for number in self.line(f"changed {drive:o}").split()[2:]]
 
+    def script(self, lines: Union[str, bytes]) -> bytes:
+        """Does lines of the console as p11 does a script, and gives the text of their answers; a refused one is among these.
+        Lines that name files find those of `put_file`, and leave those that `file` gives."""
+        text = lines.encode("latin-1") if isinstance(lines, str) else lines
+        self._done(self._p11.p11_line(self._at, text, len(text)))
+        self._typed = None
+        return self._handed(self._p11.p11_answer)
+
+    def put_file(self, name: str, held: bytes) -> None:
+        """Puts a file where lines of the console find it by its name."""
+        word = name.encode("latin-1")
+        self._done(self._p11.p11_put_file(self._at, word, len(word), held, len(held)))
+
+    def file(self, name: str) -> Optional[bytes]:
+        """The file of a name as it was put or saved last, if there is one."""
+        word = name.encode("latin-1")
+        try:
+            return self._handed(self._p11.p11_file, word, len(word))
+        except Failed as cause:
+            if cause.number != NO_FILE:
+                raise
+            return None
+
     def _with_file(self, line: str, held: bytes) -> str:
         """Does a line that takes a file from the machine's store."""
-        self._done(self._p11.p11_put_file(self._at, b"pack", 4, held, len(held)))
+        self.put_file(OWN, held)
         try:
             return self.line(line)
         finally:
             self._forget()
 
     def _forget(self) -> None:
-        self._done(self._p11.p11_forget(self._at, b"pack", 4))
+        self._done(self._p11.p11_forget(self._at, OWN.encode(), len(OWN)))
