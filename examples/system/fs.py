@@ -30,7 +30,7 @@ MARK = 0o51123
 ENTRIES, ENTRY = 127, 32
 LONGEST = 65535
 NAME = re.compile(rb"[A-Za-z0-9._-]{1,19}\Z")
-KERNEL = "sys kernel console disk files tasks calls kept".split()
+KERNEL = "sys macros kernel console disk files tasks calls kept".split()
 # what is no program of its own
 PARTS = {*KERNEL, "lib", "hello"}
 # what the pack has beside the programs
