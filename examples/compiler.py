@@ -32,7 +32,7 @@ def assembled(paths, address, options=()):
     """The assembly of sources in C and for the assembler, one behind the other, from an address on; with more options for
     the compiler."""
     with tempfile.TemporaryDirectory() as folder:
-        assembly = Assembly([Source(path + ", compiled" * path.endswith(".c"), text_of(path, folder, options), "gnu")
-                             for path in paths], address)
+        assembly = Assembly([Source(path + ", compiled" * path.endswith(".c"), text_of(path, folder, options),
+                                    "macro" if path.endswith(".mac") else "gnu") for path in paths], address)
     assembly.run()
     return assembly

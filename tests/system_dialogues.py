@@ -1,6 +1,10 @@
-"""Dialogues with the small system: its editor, and programs side by side, of which some misbehave."""
+"""Dialogues with the small system: its editor, programs in C, and programs side by side, of which some misbehave."""
+import itertools
 import os
+import random
 import re
+import subprocess
+import sys
 
 from system_model import Differs, P11, fs
 
@@ -34,7 +38,34 @@ PAGE, WORD = "[bad is ended: an address that isn't its own, PC ", "[bad is ended
 # of each way of bad.mac how what is typed begins
 BAD = {"a": PAGE, "b": PAGE, "c": PAGE + "020000]", "d": WORD, "e": PAGE, "f": WORD, "g": PAGE, "h": WORD,
        "i": "[bad is ended: an odd address, PC ", "j": "an address outside the program\r\n", "k": "there is no such call\r\n",
-       "l": "[bad is ended: a trap instruction, PC ", "m": "nothing has happened\r\n"}
+       "l": "[bad is ended: a trap instruction, PC ", "m": "nothing has happened\r\n", "n": WORD}
+
+# a program in C that shows numbers, writes a file and reads it; and what it types behind "numbers abc"
+NUMBERS = """#include "system.h"
+
+int main(int count, char **words)
+{
+    char some[20];
+    int to = create("made"), wrote, length;
+
+    printf("%d %d %u %o %s%c%% ", -32767, count, 65535u, 511, words[1], '!');
+    printf("%ld %ld %lu %lo\\n", -2147483647L, 2147483647L, 4294967295UL, 4294967295UL);
+    wrote = write(to, "text\\n", 5);
+    printf("%d %d ", wrote, close(to));
+    number(open("made"), 3);
+    length = read(3, some, sizeof some);
+    printf("%d ", length);
+    write(1, "", 0);
+    printf("%c%c %d %d ", some[0], some[4], read(3, some, 1), open("none"));
+    puts("end");
+    exit(close(9) == -5 ? 0 : 1);
+}
+"""
+NUMBERS_TYPE = (f"{-32767} 2 {2 ** 16 - 1} {0o777:o} abc!% {1 - 2 ** 31} {2 ** 31 - 1} {2 ** 32 - 1} {2 ** 32 - 1:o}\r\n"
+                "5 0   35 t\r\n 0 -1 end")
+
+# where the user's first page lies; the shell's
+USER_PAGE, SHELL = "777640", "000600"
 
 
 def files_after(pack):
@@ -64,7 +95,7 @@ def editor(program, folder, pack):
 
 def assembler(program, folder, pack):
     """The system's own assembler makes each program of its source, to the byte, and tells what is wrong with a line."""
-    name, wanted = os.path.join(folder, "sources.pack"), fs.programs()
+    name, wanted = os.path.join(folder, "sources.pack"), fs.in_assembler()
     fs.write(name, fs.system([os.path.join(fs.HERE, f"{one.decode()}.mac") for one in wanted]))
     machine = P11(program, name, ())
     for one in wanted:
@@ -81,6 +112,54 @@ def assembler(program, folder, pack):
         if made.get(b"new." + one) != data:
             raise Differs(f"as makes another {one.decode()} than fs.py")
     return f"as makes {len(wanted)} programs of their sources, to the byte"
+
+
+def numbers(program, folder):
+    """A program in C, compiled now, shows numbers, and works with files."""
+    paths = [os.path.join(folder, name) for name in ("numbers.c", "numbers", "numbers.pack")]
+    fs.write(paths[0], NUMBERS.encode())
+    subprocess.run([sys.executable, os.path.join("examples", "cc11"), "--system", paths[0], "-o", paths[1]], check=True)
+    fs.write(paths[2], fs.system([paths[1]]))
+    machine = P11(program, paths[2], ())
+    machine.expect("numbers abc", NUMBERS_TYPE)
+    machine.expect("cat made", "text\r\n")
+    machine.end()
+    return "one that is compiled now shows numbers"
+
+
+def expression(pattern):
+    """A pattern of grep as one of Python's."""
+    found, rest = "^" * pattern.startswith("^"), pattern.removeprefix("^")
+    while rest and rest != "$":
+        many = rest[1:2] == "*"
+        found += ("." if rest[0] == "." else re.escape(rest[0])) + "*" * many
+        rest = rest[1 + many:]
+    return re.compile(found + "$" * bool(rest))
+
+
+def patterns(chance, lines):
+    """Random patterns, of which most are somewhere in the lines."""
+    words = [word for line in lines for word in re.split(r"[ <>|&]+", line) if word]
+    for _ in range(60):
+        pattern = list(chance.choice(words))
+        for _ in range(chance.randrange(3)):
+            pattern[chance.randrange(len(pattern))] = chance.choice([".", ".*", "a*", "e", "*", "$"])
+        yield "^" * (chance.random() < 0.2) + "".join(pattern) + "$" * (chance.random() < 0.2)
+
+
+def grep(program, folder, pack):
+    """grep finds random patterns in files where Python finds them, and in what is piped to it."""
+    files = fs.Pack(fs.read(pack)).files
+    lines = {name: files[name.encode()].decode().splitlines() for name in ("help", "help.ed")}
+    machine, found = P11(program, pack, ()), 0
+    for pattern in patterns(random.Random(6), lines["help"] + lines["help.ed"]):
+        wanted = [f"{name}: {line}\r\n" for name in lines for line in lines[name] if expression(pattern).search(line)]
+        machine.expect(f"grep {pattern} none help help.ed", "none: there is no such file\r\n" + "".join(wanted))
+        if machine.line(f"cat help help.ed | grep {pattern} | wc")[:6] != f"{len(wanted):6}":
+            raise Differs(f"behind a pipe grep finds other lines with {pattern}")
+        found += len(wanted)
+    machine.end()
+    return f"grep finds {found} lines"
 
 
 def primes(limit):
@@ -120,6 +199,61 @@ def confined(program, folder, pack):
     if found.files != fs.Pack(fs.read(pack)).files:
         raise Differs("a program that misbehaves has changed files")
     return f"whole runs of {len(BAD)} ways to misbehave change memory of the kernel, the shell and the program alone"
+
+
+def modes(machine, line):
+    """Types a line, makes single turns until the shell has its prompt again, and gives for each whether the user's mode is on
+    behind it."""
+    machine.type(line + "\r")
+    found, typed, answers = [], "", machine.console.stdout
+    while not typed.endswith("$\\040"):
+        machine.console.stdin.write("step 1\nregs\n" * 100)
+        machine.console.stdin.flush()
+        for _ in range(100):
+            while (answer := answers.readline()).startswith("TTY "):
+                typed += answer[4:-1]
+            answers.readline()
+            found.append(int(answers.readline().split()[-1], 8) >= 0o140000)
+            answers.readline()
+    return found
+
+
+def stretches(found):
+    """Behind how many turns the user's mode is on, and how many turns keep it: no service begins in them."""
+    at = 0
+    for user, turns in itertools.groupby(found):
+        count = len(list(turns))
+        if user and count > 1:
+            yield at + 1, count - 1
+        at += count
+
+
+def in_its_pages(program, pack):
+    """In each stretch of turns of a program that misbehaves, from a service to the next, words of its own page change alone."""
+    first, second, seen, turns = P11(program, pack, (), 1000), P11(program, pack, (), 1000), 0, 0
+    for letter in BAD:
+        found, made, own = modes(first, f"bad {letter}"), 0, 0
+        second.type(f"bad {letter}\r")
+        for at, count in stretches(found):
+            second.run(at - made)
+            made = at
+            page = second.ask(f"examine {USER_PAGE}").split()[2]
+            if page == SHELL:
+                continue
+            before = memory(second, 0, 0o160000)
+            second.run(count)
+            after, begin = memory(second, 0, 0o160000), 64 * int(page, 8)
+            wrong = [at for at in range(len(before)) if before[at] != after[at] and not begin <= at < begin + fs.PAGE]
+            if wrong:
+                raise Differs(f"bad {letter} changes {[f'{at:o}' for at in wrong[:9]]}, outside of its page {page}")
+            made, own, turns = made + count, own + 1, turns + count
+        if own == 0:
+            raise Differs(f"bad {letter} has no turn of its own")
+        second.run(len(found) - made)
+        seen += own
+    for machine in (first, second):
+        machine.end()
+    return f"in {seen} stretches of {turns} turns, from a service to the next, {len(BAD)} ways to misbehave change their own page alone"
 
 
 def together(program, folder, pack):

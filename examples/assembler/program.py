@@ -85,6 +85,7 @@ class Assembly:
         self.faults, self.memory, self.listing, self.end = [], {}, [], None
         self.ends = {".text": self.base_of(".text")}
         self.symbols.begin_pass()
+        self.macros = {}
         for number, source in enumerate(self.sources):
             self.read(number, source)
             self.leave_section()
@@ -99,7 +100,6 @@ class Assembly:
         self.conditions = Conditions(self.dialect, self.symbols, self.expressions)
         self.lines = Lines(source.name, source.text, self.dialect)
         self.directives = Directives(self)
-        self.macros = {}
         self.section = ".text"
         self.symbols.location = self.ends[".text"]
         for self.place, line in iter(self.lines.next, None):

@@ -21,6 +21,7 @@ HERE = os.path.dirname(os.path.abspath(__file__))
 sys.dont_write_bytecode = True
 sys.path.insert(0, os.path.dirname(HERE))
 from assembler.program import Assembly, Source, Wrong  # noqa: E402 (the folder is known only now)
+from compiler import FOLDER, assembled as assembled_c  # noqa: E402
 from images import filled, pack as booting  # noqa: E402
 
 BLOCK, BLOCKS, FIRST = 512, 4872, 72
@@ -30,9 +31,12 @@ MARK = 0o51123
 ENTRIES, ENTRY = 127, 32
 LONGEST = 65535
 NAME = re.compile(rb"[A-Za-z0-9._-]{1,19}\Z")
-KERNEL = "sys kernel console disk files tasks calls kept".split()
+KERNEL = "sys macros kernel console disk files tasks calls kept".split()
 # what is no program of its own
 PARTS = {*KERNEL, "lib", "hello"}
+# what a program in C stands on: these in front of it, and these behind
+BEFORE, BEHIND = ["c/start.s", os.path.join(FOLDER, "long.s")], ["c/printf.c", "sys.mac", "lib.mac"]
+PAGE, STACK = 8192, 1024
 # what the pack has beside the programs
 TEXTS = ["help", "help.ed", "sys.mac", "lib.mac", "hello.mac"]
 
@@ -165,10 +169,28 @@ def kernel():
     return booting(filled(made.pieces())[1], made.entry, 0o1000)
 
 
-def programs():
-    """The programs by their names."""
+def compiled(sources):
+    """A program of sources in C; its second word says how many pages hold it and a stack."""
+    own = [[os.path.join(HERE, name) for name in names] for names in (BEFORE, BEHIND)]
+    assembly = assembled_c([*own[0], *sources, *own[1]], 0, ["-I", os.path.join(HERE, "c")])
+    made = filled(assembly.pieces())[1]
+    pages = -(-(max(assembly.ends.values()) + STACK) // PAGE)
+    return made[:2] + struct.pack("<H", pages) + made[4:]
+
+
+def in_assembler():
+    """The programs that are assembled with the library, by their names."""
     names = sorted(os.path.basename(path)[:-4] for path in glob.glob(os.path.join(HERE, "*.mac")))
     return {name.encode(): filled(assembled(["sys", name, "lib"], 0).pieces())[1] for name in names if name not in PARTS}
+
+
+def in_c():
+    """The programs in C, as they were compiled, by their names."""
+    return {os.path.basename(path)[:-8].encode(): read(path) for path in sorted(glob.glob(os.path.join(HERE, "c", "*.program")))}
+
+
+def programs():
+    return {**in_assembler(), **in_c()}
 
 
 def system(more=()):
