@@ -20,16 +20,17 @@ use Rattle.p11_cpu.specs.OperatorDevices.{room_of}
 use Rattle.p11_panel.specs.declared.command.Command.{Command}
 use Rattle.p11_panel.specs.declared.command.Command.TheVariants as commands
 use Rattle.p11_panel.specs.Commands.{CommandStep}
+use Rattle.p11_panel.specs.Keys.{pressed}
 use Rattle.p11_panel.specs.Session.{SessionState, with_store, fault_of, Obeys}
 use Rattle.p11_store.specs.Store.{StoreState, Fetches}
 use Rattle.p11_store.specs.declared.store.StoreError.{StoreError}
 use Rattle.p11_console.specs.Files.{Gives, GivesLine, GivesScript, Names, Takes, TakesPut, file_command, file_name, image_in, opening, wanted, way_missing}
 use Rattle.p11_console.specs.Lines.{first_line}
 use Rattle.p11_console.specs.Manner.{is_batch, tried_by}
-use Rattle.p11_console.specs.Record.{ended, recorded, run_text, tick_text}
+use Rattle.p11_console.specs.Record.{ended, keys_text, recorded, run_text, tick_text}
 use Rattle.p11_console.specs.Runs.{goes_on, next_run, pressed_on, recorded_on, slice_turns, talk_of, typed_in}
 use Rattle.p11_console.specs.State.{ConsoleState, opened}
-use Rattle.p11_console.specs.Steps.{Answers, AnswersBy, Begins, Completes, DoesGiven, DoesMeant, DoesPhrase, DoesScripted, FindsLine, Leaves, LeavesBy, Moves, Reads, ReadsAs, Runs, RunsBy, Steps, StepsAgain, TakesKey, TakesLine, TicksIn, Types, agrees, course_now, goes_behind, has_given, has_scripted, has_some, is_all, is_by_person, steps_again, stopped_by, way_agreed, way_behind, way_ended, way_stopped}
+use Rattle.p11_console.specs.Steps.{Answers, AnswersBy, Begins, Completes, DoesGiven, DoesMeant, DoesPhrase, DoesScripted, FindsLine, Leaves, LeavesBy, Moves, Reads, ReadsAs, Runs, RunsBy, Steps, StepsAgain, TakesKey, TakesLine, TicksIn, Types, agrees, course_now, goes_behind, has_given, has_scripted, has_some, is_all, is_by_person, keys_now, steps_again, stopped_by, way_agreed, way_behind, way_ended, way_stopped}
 use Rattle.p11_console.specs.Tries.{Acts, refused}
 use Rattle.p11_console.specs.Typing.{outcome_way}
 use Rattle.p11_console.specs.declared.run.Course.{Course}
@@ -48,6 +49,7 @@ use Rattle.p11_console.specs.declared.way.Way.TheVariants as ways
 use Rattle.p11_records.specs.Again.{Alike}
 use Rattle.p11_records.specs.Dialogue as dialogue
 use Rattle.p11_records.specs.Dialogue.{Comes, Dialogue, DialoguesDoAgain, Event, Gets, Happen, Happens, HostDoes, Keeps, begun, due, due_now, record_of, session_of, taken_at, typed_at, typed_on}
+use Rattle.p11_records.proofs.LinesFit.{line_fits}
 use Rattle.p11_records.proofs.LinesRecorded.{Brings, begun_holds, is_way, line_done, talk_holds, text_tried}
 use Rattle.p11_records.proofs.OutcomeLemmas.{runs as runs_turns, answered, refused_leaves, types_nothing}
 use Rattle.p11_records.proofs.RecordLemmas.{Again, failed, none}
@@ -186,10 +188,15 @@ runs_by {A} course.Slices turns run c c' taken typed store t e clean going h =
     moved taken typed store t h.2
     (slice_holds A (taken ++ c.journal) typed run c.machine c'.machine store t (slice_turns run (has_some c.waiting) turns) clean going few (has_some c.waiting) h.0 h.1)
 runs_by {A} course.Presses turns run c c' taken typed store t e clean going h =
-    let clear = keys_leave_none _ c.machine clean in
+    let given = (keys_now c).0 in
+    let machine = pressed given c.machine in
+    let text = taken ++ (c.journal ++ keys_text A run.made given) in
+    let clear = keys_leave_none given c.machine clean in
     moved taken typed store t h
-    (run_holds {A = A} (pressed_on run) _ typed _ store t clear
-    (goes A _ typed _ store t clear (regroup A taken c.journal _ typed _ t (keyed {A = A} (taken ++ c.journal) typed run.made (is_by_person c) c.waiting c.machine store t going.so_far))))
+    (run_holds {A = A} (pressed_on run) text typed machine store t clear
+    (goes A text typed machine store t clear
+    (regroup A taken c.journal (keys_text A run.made given) typed (with_store machine store) t
+    (keyed {A = A} (taken ++ c.journal) typed run.made (is_by_person c) c.waiting c.machine store t going.so_far))))
 runs_by course.Ticks turns run c c' taken typed store t e clean going h = ticks_running run c c' taken typed store t clean going h
 runs_by {A} course.Records turns run c c' taken typed store t e clean going h =
     moved taken typed store t h
@@ -463,7 +470,7 @@ way_due (ways.Sliced run answer) text typed machine store t h = now_due (way_beh
 way_due way text typed machine store t h = now_due way text typed machine store t h
 
 recorded_all : {A : Type 0} (d : Dialogue A) (t : SessionState) → HeldIn d t → Again A (record_of d) d.typed (session_of d) t
-recorded_all {A} d t held = regroup A d.taken d.console.journal (due d.console.way) d.typed (session_of d) t (way_due d.console.way (d.taken ++ d.console.journal) d.typed d.console.machine d.store t held.stands)
+recorded_all d t held = way_due d.console.way (d.taken ++ d.console.journal) d.typed d.console.machine d.store t held.stands
 
 at_first : {A : Type 0} (panel : State) (settings : Settings) (store : StoreState) (t : SessionState) → panel.bus.typed ≡ [] → Alike (with_store panel store) t → HeldIn (begun {A = A} panel settings store) t
 unfolding opened

@@ -11,4 +11,5 @@ pub mod ScriptLemmas
 pub mod UnderWay
 pub mod LinesRecorded
 pub mod RunsRecorded
+pub mod LinesFit
 pub mod DialogueLemmas

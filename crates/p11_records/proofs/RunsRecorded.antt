@@ -93,6 +93,7 @@ module _ (A : Type 0) (text typed : List ℕ) (run : Run) (machine machine' : St
       }
 
   going_on : (more : List ℕ) (reason : StopReason) (turns pc : ℕ) → CommandStep {A = A} machine (run_command run.until_idle n) (answers.Stop more reason turns pc) machine' → runs_on reason ≡ true → Going A text (typed ++ more) (run.made + turns) machine' store t
+  unfolding stopped_open
   going_on more reason turns pc step on =
       let r = going.so_far in
       record {

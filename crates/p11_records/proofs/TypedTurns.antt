@@ -79,18 +79,19 @@ fatal_behind pc status turn earlier h =
 abbrev Behind : {A : Type 0} → List ℕ → HardwareState × A → HardwareState × A → Type 0
 Behind earlier p q = q ≡ (behind earlier p.0, p.1)
 
+-- what is made of the entry that a service tries
+abbrev service_end : {S : Type 0} → S → S → ℕ → Psw → ℕ → HardwareState × Result (Unit {0}) Trap → HardwareState × S
+service_end made fatal pc status turn p = cond (is_ok p.1) (p.0, made) (fatal_of pc status turn p.0, fatal)
+
+service_ends : {S : Type 0} (made fatal : S) (pc : ℕ) (status : Psw) (turn : ℕ) (earlier : List ℕ) (p q : HardwareState × Result (Unit {0}) Trap) → Behind earlier p q → Behind earlier (service_end made fatal pc status turn p) (service_end made fatal pc status turn q)
+service_ends made fatal pc status turn earlier p q e =
+    ap (service_end made fatal pc status turn) e
+    ∙ either_gives (is_ok p.1) earlier (p.0, made) (fatal_of pc status turn p.0, fatal) (behind earlier p.0, made) (fatal_of pc status turn (behind earlier p.0), fatal) refl (ap (λ (x : HardwareState). (x, fatal)) (fatal_behind pc status turn earlier p.0))
+
 service_behind : (vector : Vector) (turn : ℕ) (earlier : List ℕ) (h : HardwareState) → Behind earlier (service_of vector turn h) (service_of vector turn (behind earlier h))
 unfolding service_of woken
 service_behind vector turn earlier h =
-    let pc = h.processor.registers.pc in
-    let status = h.processor.status in
-    ap (λ (p : HardwareState × Result (Unit {0}) Trap). cond (is_ok p.1) (p.0, _) (fatal_of pc status turn p.0, _)) ((entry_blind vector pc status).same earlier turn (woken h))
-    ∙ served_behind _ _ pc status turn earlier (entry_of vector pc status turn (woken h))
-  where
-    served_behind : {Service : Type 0} (made fatal : Service) (pc : ℕ) (status : Psw) (turn : ℕ) (earlier : List ℕ) (p : HardwareState × Result (Unit {0}) Trap)
-        → Behind earlier (cond (is_ok p.1) (p.0, made) (fatal_of pc status turn p.0, fatal)) (cond (is_ok p.1) (behind earlier p.0, made) (fatal_of pc status turn (behind earlier p.0), fatal))
-    served_behind made fatal pc status turn earlier p =
-        either_gives (is_ok p.1) earlier (p.0, made) (fatal_of pc status turn p.0, fatal) _ _ refl (ap (λ (x : HardwareState). (x, fatal)) (fatal_behind pc status turn earlier p.0))
+    service_ends _ _ h.processor.registers.pc h.processor.status turn earlier _ _ ((entry_blind vector h.processor.registers.pc h.processor.status).same earlier turn (woken h))
 
 serves : Serves
 serves = record { service = service_behind; fatal = fatal_behind }
