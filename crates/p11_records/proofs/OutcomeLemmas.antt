@@ -154,3 +154,7 @@ refused_is fault s s' (inr (other, h)) = h.1
 
 pub refused_leaves : {A : Type 0} (command : Command A) (fault : Fault) (s s' : State) → runs command ≡ false → CommandStep s command (answers.Refused fault) s' → s' ≡ s
 refused_leaves {A} command fault s s' e h = refused_is {A = A} fault s s' (answered s command (answers.Refused fault) s' e h)
+
+-- an answer that doesn't refuse
+abbrev pub Answers : {A : Type 0} → Answer A → Type 0
+Answers answer = (fault : Fault) → answer ≡ answers.Refused fault → ⊥

@@ -1,10 +1,10 @@
 -- The lines of a record do again what was done.
-use Rattle.std.proofs.Common.{◌≡◌, ℕ, zero, suc, Bool, true, false, ◌==◌, if◌then◌else◌, List, [], ◌∷◌, ◌++◌, Option, None, Some, refl, sym, ap, subst, ◌∙◌, append-nil, arith, inl, inr}
+use Rattle.std.proofs.Common.{◌≡◌, ℕ, zero, suc, All, map, Bool, true, false, ◌==◌, if◌then◌else◌, List, [], ◌∷◌, ◌++◌, Option, None, Some, refl, sym, ap, subst, ◌∙◌, append-nil, arith, inl, inr}
 use Rattle.std.specs.List.{flat_map}
 use Rattle.std.proofs.lemmas.Grind.{flat_map-append}
+use Rattle.std.proofs.lemmas.List.Elements.{All-nil, All-cons}
 use Rattle.p11_lines.specs.declared.answer.Answer.{Answer}
 use Rattle.p11_lines.specs.declared.answer.Answer.TheVariants as answers
-use Rattle.p11_lines.specs.declared.fault.Fault.{Fault}
 use Rattle.p11_lines.specs.declared.line.Line.{Line}
 use Rattle.p11_lines.specs.declared.line.Line.TheVariants as lines
 use Rattle.p11_lines.specs.Calls.LineText.{line_text}
@@ -12,23 +12,22 @@ use Rattle.p11_cpu.specs.State.{State}
 use Rattle.p11_panel.specs.declared.command.Command.{Command}
 use Rattle.p11_panel.specs.declared.command.Command.TheVariants as commands
 use Rattle.p11_panel.specs.Commands.{CommandStep}
-use Rattle.p11_panel.specs.Session.{SessionState, with_store, Obeys, OnFile, Keeps, fault_of}
+use Rattle.p11_panel.specs.Script.{script_lines}
+use Rattle.p11_panel.specs.Session.{LineDoes, LinesRun, SessionState, with_store, Obeys, OnFile, Keeps, fault_of}
 use Rattle.p11_store.specs.Store.{StoreState, FailsToFetch, Has, KeepsOthers, Puts, asked, with_call}
 use Rattle.p11_store.specs.declared.store.StoreError.{StoreError}
 use Rattle.p11_store.specs.declared.store.StoreError.TheVariants as errors
 use Rattle.p11_console.specs.Record.{ended, run_text}
 use Rattle.p11_console.specs.Runs.{typed_in}
-use Rattle.p11_records.specs.Again.{Alike, Obey}
+use Rattle.p11_records.specs.Again.{Alike, AreAsked, IsOfScript, Obey}
+use Rattle.p11_records.proofs.OutcomeLemmas.{Answers}
+use Rattle.p11_records.proofs.ScriptLemmas.{asked as lines_asked}
 
 -- THE SAME OVER A SESSION THAT IS ALIKE
 
 -- a line with this answer is done again
 abbrev Repeats : {A : Type 0} → Line A → Answer A → SessionState → SessionState → Type 0
 Repeats line answer s' t = (t' : SessionState) × Obeys line t answer t' × Alike s' t'
-
--- an answer that doesn't refuse
-abbrev pub Answers : {A : Type 0} → Answer A → Type 0
-Answers answer = (fault : Fault) → answer ≡ answers.Refused fault → ⊥
 
 -- a command does the same
 same_step : {A : Type 0} (command : Command A) (answer : Answer A) (s t : SessionState) (after : State) → Alike s t → CommandStep s.machine command answer after → CommandStep t.machine command answer after
@@ -116,24 +115,29 @@ failed name errors.NoMemory s s' h = ap (λ (x : StoreState). x.files) h.1
 
 -- LINES THAT DO AGAIN WHAT WAS DONE
 
+-- they are lines of a script
+abbrev pub AreOfScript : {A : Type 0} → List (Line A × Answer A) → Type 0
+AreOfScript [] = Unit {0}
+AreOfScript (done ∷ others) = IsOfScript done.0 × AreOfScript others
+
 -- they have this text, type these bytes, and come there
 abbrev pub Again : Type 0 → List ℕ → List ℕ → SessionState → SessionState → Type 0
 Again A text typed s' t =
     (again : List (Line A × Answer A)) × (t' : SessionState) × Obey again t t' × Alike s' t'
-    × (flat_map (λ done. ended done.0) again ≡ text) × (flat_map (λ done. typed_in done.1) again ≡ typed)
+    × (flat_map (λ done. ended done.0) again ≡ text) × (flat_map (λ done. typed_in done.1) again ≡ typed) × AreOfScript again
 
 pub none : (A : Type 0) (s t : SessionState) → Alike s t → Again A [] [] s t
 unfolding Obey
-none A s t alike = ([], t, refl, alike, refl, refl)
+none A s t alike = ([], t, refl, alike, refl, refl, tt)
 
 -- what isn't seen is no matter
 pub unseen : (A : Type 0) (text typed : List ℕ) (s s' t : SessionState) → Unseen s s' → Again A text typed s t → Again A text typed s' t
-unseen A text typed s s' t same done = (done.0, done.1, done.2, still s s' done.1 same done.3, done.4, done.5)
+unseen A text typed s s' t same done = (done.0, done.1, done.2, still s s' done.1 same done.3, done.4, done.5, done.6)
 
-one : {A : Type 0} (line : Line A) (answer : Answer A) (s' t : SessionState) → Repeats line answer s' t → Again A (ended line) (typed_in answer) s' t
+one : {A : Type 0} (line : Line A) (answer : Answer A) (s' t : SessionState) → IsOfScript line → Repeats line answer s' t → Again A (ended line) (typed_in answer) s' t
 unfolding Obey
-one line answer s' t h =
-    ((line, answer) ∷ [], h.0, (h.0, h.1, refl), h.2, append-nil (ended line), append-nil (typed_in answer))
+one line answer s' t fits h =
+    ((line, answer) ∷ [], h.0, (h.0, h.1, refl), h.2, append-nil (ended line), append-nil (typed_in answer), (fits, tt))
 
 pub run_none : (A : Type 0) → run_text A zero ≡ []
 unfolding run_text
@@ -155,6 +159,10 @@ obey_more (done ∷ first) others s s' s'' h next = (h.0, h.1, obey_more first o
 joined : {X : Type 0} (f : X → List ℕ) (xs ys : List X) (a b : List ℕ) → flat_map f xs ≡ a → flat_map f ys ≡ b → flat_map f (xs ++ ys) ≡ a ++ b
 joined f xs ys a b e h = flat_map-append f xs ys ∙ ap (λ (x : List ℕ). x ++ flat_map f ys) e ∙ ap (λ (y : List ℕ). a ++ y) h
 
+all_of_script : {A : Type 0} (first others : List (Line A × Answer A)) → AreOfScript first → AreOfScript others → AreOfScript (first ++ others)
+all_of_script [] others a b = b
+all_of_script (done ∷ first) others a b = (a.0, all_of_script first others a.1 b)
+
 both : {A : Type 0} (text more typed others : List ℕ) (s' s'' t : SessionState) → (first : Again A text typed s' t) → Again A more others s'' first.1 → Again A (text ++ more) (typed ++ others) s'' t
 both text more typed others s' s'' t first next = (
   first.0 ++ next.0,
@@ -163,9 +171,46 @@ both text more typed others s' s'' t first next = (
   next.3,
   joined (λ done. ended done.0) first.0 next.0 text more first.4 next.4,
   joined (λ done. typed_in done.1) first.0 next.0 typed others first.5 next.5,
+  all_of_script first.0 next.0 first.6 next.6,
 )
 
 -- one line more, whose answer doesn't refuse
-pub one_more : {A : Type 0} (text typed : List ℕ) (line : Line A) (answer : Answer A) (s s' t : SessionState) → Answers answer → Again A text typed s t → Obeys line s answer s' → Again A (text ++ ended line) (typed ++ typed_in answer) s' t
-one_more {A} text typed line answer s s' t answers_it done h =
-    both {A = A} text (ended line) typed (typed_in answer) s s' t done (one line answer s' done.1 (repeats line answer s s' done.1 answers_it done.3 h))
+pub one_more : {A : Type 0} (text typed : List ℕ) (line : Line A) (answer : Answer A) (s s' t : SessionState) → IsOfScript line → Answers answer → Again A text typed s t → Obeys line s answer s' → Again A (text ++ ended line) (typed ++ typed_in answer) s' t
+one_more {A} text typed line answer s s' t fits answers_it done h =
+    both {A = A} text (ended line) typed (typed_in answer) s s' t done (one line answer s' done.1 fits (repeats line answer s s' done.1 answers_it done.3 h))
+
+-- AS A SCRIPT
+
+pub lines_of : {A : Type 0} → List (Line A × Answer A) → List (Line A)
+lines_of again = map (λ done. done.0) again
+
+pub answers_of : {A : Type 0} → List (Line A × Answer A) → List (Answer A)
+answers_of again = map (λ done. done.1) again
+
+fit_all : {A : Type 0} (again : List (Line A × Answer A)) → AreOfScript again → All IsOfScript (lines_of again)
+unfolding lines_of
+fit_all {A} [] fit = All-nil (IsOfScript {A = A})
+fit_all {A} (done ∷ others) fit = All-cons (IsOfScript {A = A}) done.0 (lines_of others) fit.0 (fit_all others fit.1)
+
+asked_for : {A : Type 0} (again : List (Line A × Answer A)) (s s' : SessionState) → Obey again s s' → AreAsked (lines_of again) s (answers_of again) s'
+unfolding Obey AreAsked lines_of answers_of
+asked_for [] s s' h = h
+asked_for (done ∷ others) s s' h = (h.0, inl h.1, asked_for others h.0 s' h.2)
+
+same_lines : {A : Type 0} (again : List (Line A × Answer A)) → flat_map ended (lines_of again) ≡ flat_map (λ done. ended done.0) again
+unfolding lines_of
+same_lines [] = refl
+same_lines (done ∷ others) = ap (λ (x : List ℕ). ended done.0 ++ x) (same_lines others)
+
+same_answers : {A : Type 0} (again : List (Line A × Answer A)) → flat_map typed_in (answers_of again) ≡ flat_map (λ done. typed_in done.1) again
+unfolding answers_of
+same_answers [] = refl
+same_answers (done ∷ others) = ap (λ (x : List ℕ). typed_in done.1 ++ x) (same_answers others)
+
+-- a session whose script has this text does so
+pub played : (A : Type 0) (text typed : List ℕ) (s' t : SessionState) → Again A text typed s' t → (answers : List (Answer A)) × (t' : SessionState) × LinesRun (LineDoes {A = A}) (script_lines text) t answers t' × Alike s' t' × (flat_map typed_in answers ≡ typed)
+played A text typed s' t done =
+    let lines : List (Line A) = lines_of done.0 in
+    let run : LinesRun (LineDoes {A = A}) (script_lines (flat_map ended lines)) t (answers_of done.0) done.1 =
+    (lines_asked lines (answers_of done.0) t done.1 (fit_all done.0 done.6)).1 (asked_for done.0 t done.1 done.2) in
+    (answers_of done.0, done.1, subst (λ (x : List ℕ). LinesRun (LineDoes {A = A}) (script_lines x) t (answers_of done.0) done.1) (same_lines done.0 ∙ done.4) run, done.3, same_answers done.0 ∙ done.5)

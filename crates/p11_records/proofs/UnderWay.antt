@@ -1,10 +1,11 @@
 -- What is so of a dialogue at each step of its console: what is recorded, with what is due, does again what was done.
-use Rattle.std.proofs.Common.{◌≡◌, ℕ, zero, suc, ◌<◌, Bool, true, false, List, [], ◌++◌, append-nil, refl, sym, ap, subst, ◌∙◌, arith}
+use Rattle.std.proofs.Common.{◌≡◌, ℕ, zero, suc, ◌<◌, ◌≤◌, Bool, true, false, List, [], ◌++◌, append-nil, refl, sym, ap, subst, ◌∙◌, arith}
 use Rattle.p11_lines.specs.declared.answer.Answer.{Answer}
 use Rattle.p11_lines.specs.declared.answer.Answer.TheVariants as answers
 use Rattle.p11_lines.specs.declared.fault.Fault.{Fault}
 use Rattle.p11_lines.specs.declared.line.Line.{Line}
 use Rattle.p11_lines.specs.declared.line.Line.TheVariants as lines
+use Rattle.p11_lines.specs.Calls.LineText.{FitsGrammar}
 use Rattle.p11_cpu.specs.State.{State}
 use Rattle.p11_cpu.specs.Turns.{after_turns}
 use Rattle.p11_panel.specs.declared.command.Command.TheVariants as commands
@@ -19,8 +20,10 @@ use Rattle.p11_console.specs.declared.run.Run.{Run}
 use Rattle.p11_console.specs.declared.way.Way.{Way}
 use Rattle.p11_console.specs.declared.way.Way.TheVariants as ways
 use Rattle.p11_records.specs.Dialogue.{typed_on}
+use Rattle.p11_records.specs.Again.{IsOfScript}
+use Rattle.p11_records.proofs.LinesFit.{IsSmall, of_script}
 use Rattle.p11_records.proofs.MergedLemmas.{Merged, merged_steps, none_halted, none_made, still_there}
-use Rattle.p11_records.proofs.OutcomeLemmas.{no_stop}
+use Rattle.p11_records.proofs.OutcomeLemmas.{Answers, no_stop}
 use Rattle.p11_records.proofs.RecordLemmas.{Again, one_more, run_kept, run_none, unseen}
 
 -- A RUN THAT ISN'T RECORDED YET: so many turns, behind what is recorded
@@ -52,6 +55,10 @@ closes_none A text typed machine store t open_run =
     (same_typed A text open_run.earlier typed (with_store machine store) t (open_run.all ∙ ap (λ x. open_run.earlier ++ x) still.1 ∙ append-nil open_run.earlier)
     (unseen A text open_run.earlier (with_store open_run.start store) (with_store machine store) t (still.0, refl) open_run.done))
 
+step_fits : (A : Type 0) (n : ℕ) → suc n ≤ 100000000 → IsOfScript {A = A} (lines.Step (suc n))
+unfolding FitsGrammar
+step_fits A n few = of_script {A = A} (lines.Step (suc n)) (omega arith, omega (arith, few)) tt
+
 closes_some : (A : Type 0) (text typed : List ℕ) (n : ℕ) (machine : State) (store : StoreState) (t : SessionState) → Open A text typed (suc n) machine store t → Again A (text ++ run_text A (suc n)) typed (with_store machine store) t
 unfolding Obeys typed_in
 closes_some A text typed n machine store t open_run =
@@ -59,7 +66,7 @@ closes_some A text typed n machine store t open_run =
     let pc = (after_turns (suc n) open_run.start).processor.registers.pc in
     same_text A (text ++ ended {A = A} (lines.Step (suc n))) (text ++ run_text A (suc n)) typed (with_store machine store) t (ap (λ x. text ++ x) (run_kept A n))
     (same_typed A (text ++ ended {A = A} (lines.Step (suc n))) (open_run.earlier ++ open_run.during) typed (with_store machine store) t open_run.all
-    (one_more {A = A} text open_run.earlier (lines.Step (suc n)) (answers.Stop open_run.during step.0 (suc n) pc) (with_store open_run.start store) (with_store machine store) t
+    (one_more {A = A} text open_run.earlier (lines.Step (suc n)) (answers.Stop open_run.during step.0 (suc n) pc) (with_store open_run.start store) (with_store machine store) t (step_fits A n open_run.run.few)
     (λ fault e. no_stop {A = A} open_run.during step.0 (suc n) pc fault e) open_run.done (step.1, refl)))
 
 -- once it is recorded
@@ -95,11 +102,11 @@ Now {A} (ways.Running run) text typed machine store t = Going A text typed run.m
 Now {A} (ways.Stopped stop more) text typed machine store t = Again A (text ++ more) typed (with_store machine store) t
 Now {A} (ways.Telling answer more note) text typed machine store t = Again A (text ++ more) typed (with_store machine store) t
 Now {A} (ways.Fetching line more) text typed machine store t =
-    Again A text typed (with_store machine store) t × (more ≡ ended line) × IsFetching line
+    Again A text typed (with_store machine store) t × (more ≡ ended line) × IsFetching line × FitsGrammar line
 Now {A} (ways.Putting line image more is_agreed) text typed machine store t =
-    Again A text typed (with_store machine store) t × (more ≡ ended line) × IsSaving line image machine
+    Again A text typed (with_store machine store) t × (more ≡ ended line) × IsSaving line image machine × FitsGrammar line
 Now {A} (ways.Asking line image more) text typed machine store t =
-    Again A text typed (with_store machine store) t × (more ≡ ended line) × IsSaving line image machine
+    Again A text typed (with_store machine store) t × (more ≡ ended line) × IsSaving line image machine × FitsGrammar line
 Now {A} way text typed machine store t = Again A text typed (with_store machine store) t
 
 abbrev pub Stands : {A : Type 0} → Way A → List ℕ → List ℕ → State → StoreState → SessionState → Type 0
@@ -149,16 +156,17 @@ told_holds {A} fault text typed machine store t clean done =
     record { clean = clean; stands = same_text A text (text ++ []) (typed ++ []) (with_store machine store) t (append-nil text) (more_none A text typed (with_store machine store) t done) }
 
 -- a line that was done, by its answer: one that is refused leaves all as it was
-line_stands : {A : Type 0} (line : Line A) (answer : Answer A) (text typed : List ℕ) (machine machine' : State) (store store' : StoreState) (t : SessionState) → ((fault : Fault) → answer ≡ answers.Refused fault → (machine' ≡ machine) × (store'.files ≡ store.files)) → Again A text typed (with_store machine store) t → Obeys line (with_store machine store) answer (with_store machine' store') → Again A (text ++ recorded (ended line) answer) (typed ++ typed_in answer) (with_store machine' store') t
+line_stands : {A : Type 0} (line : Line A) (answer : Answer A) (text typed : List ℕ) (machine machine' : State) (store store' : StoreState) (t : SessionState) → FitsGrammar line → (Answers answer → IsSmall line) → ((fault : Fault) → answer ≡ answers.Refused fault → (machine' ≡ machine) × (store'.files ≡ store.files)) → Again A text typed (with_store machine store) t → Obeys line (with_store machine store) answer (with_store machine' store') → Again A (text ++ recorded (ended line) answer) (typed ++ typed_in answer) (with_store machine' store') t
 unfolding recorded typed_in
-line_stands {A} line (answers.Refused fault) text typed machine machine' store store' t leaves done h =
+line_stands {A} line (answers.Refused fault) text typed machine machine' store store' t fits small leaves done h =
     same_text A text (text ++ []) (typed ++ []) (with_store machine' store') t (append-nil text)
     (more_none A text typed (with_store machine' store') t (unseen A text typed (with_store machine store) (with_store machine' store') t (leaves fault refl) done))
-line_stands line answer text typed machine machine' store store' t leaves done h = one_more text typed line answer (with_store machine store) (with_store machine' store') t (λ fault e. cc) done h
+line_stands line answer text typed machine machine' store store' t fits small leaves done h =
+    one_more text typed line answer (with_store machine store) (with_store machine' store') t (of_script line fits (small (λ fault e. cc))) (λ fault e. cc) done h
 
-pub line_holds : {A : Type 0} (line : Line A) (answer : Answer A) (text typed : List ℕ) (machine machine' : State) (store store' : StoreState) (t : SessionState) → machine'.bus.typed ≡ [] → ((fault : Fault) → answer ≡ answers.Refused fault → (machine' ≡ machine) × (store'.files ≡ store.files)) → Again A text typed (with_store machine store) t → Obeys line (with_store machine store) answer (with_store machine' store') → Holds {A = A} (ways.Telling answer (recorded (ended line) answer) tt) text (typed ++ typed_in answer) machine' store' t
-line_holds line answer text typed machine machine' store store' t clean leaves done h =
-    record { clean = clean; stands = line_stands line answer text typed machine machine' store store' t leaves done h }
+pub line_holds : {A : Type 0} (line : Line A) (answer : Answer A) (text typed : List ℕ) (machine machine' : State) (store store' : StoreState) (t : SessionState) → machine'.bus.typed ≡ [] → FitsGrammar line → (Answers answer → IsSmall line) → ((fault : Fault) → answer ≡ answers.Refused fault → (machine' ≡ machine) × (store'.files ≡ store.files)) → Again A text typed (with_store machine store) t → Obeys line (with_store machine store) answer (with_store machine' store') → Holds {A = A} (ways.Telling answer (recorded (ended line) answer) tt) text (typed ++ typed_in answer) machine' store' t
+line_holds line answer text typed machine machine' store store' t clean fits small leaves done h =
+    record { clean = clean; stands = line_stands line answer text typed machine machine' store store' t fits small leaves done h }
 
 -- OTHER FILES THAT ARE THE SAME
 
@@ -182,9 +190,9 @@ now_still : {A : Type 0} (way : Way A) (text typed : List ℕ) (machine : State)
 now_still {A} (ways.Running run) text typed machine store store' t e h = open_still A text typed run.made machine store store' t e h
 now_still {A} (ways.Stopped stop more) text typed machine store store' t e h = unseen A (text ++ more) typed (with_store machine store) (with_store machine store') t (refl, e) h
 now_still {A} (ways.Telling answer more note) text typed machine store store' t e h = unseen A (text ++ more) typed (with_store machine store) (with_store machine store') t (refl, e) h
-now_still {A} (ways.Fetching line more) text typed machine store store' t e h = (unseen A text typed (with_store machine store) (with_store machine store') t (refl, e) h.0, h.1, h.2)
-now_still {A} (ways.Putting line image more is_agreed) text typed machine store store' t e h = (unseen A text typed (with_store machine store) (with_store machine store') t (refl, e) h.0, h.1, h.2)
-now_still {A} (ways.Asking line image more) text typed machine store store' t e h = (unseen A text typed (with_store machine store) (with_store machine store') t (refl, e) h.0, h.1, h.2)
+now_still {A} (ways.Fetching line more) text typed machine store store' t e h = (unseen A text typed (with_store machine store) (with_store machine store') t (refl, e) h.0, h.1, h.2, h.3)
+now_still {A} (ways.Putting line image more is_agreed) text typed machine store store' t e h = (unseen A text typed (with_store machine store) (with_store machine store') t (refl, e) h.0, h.1, h.2, h.3)
+now_still {A} (ways.Asking line image more) text typed machine store store' t e h = (unseen A text typed (with_store machine store) (with_store machine store') t (refl, e) h.0, h.1, h.2, h.3)
 now_still {A} way text typed machine store store' t e h = unseen A text typed (with_store machine store) (with_store machine store') t (refl, e) h
 
 stands_still : {A : Type 0} (way : Way A) (text typed : List ℕ) (machine : State) (store store' : StoreState) (t : SessionState) → store'.files ≡ store.files → Stands way text typed machine store t → Stands way text typed machine store' t

@@ -1,15 +1,15 @@
 -- A dialogue: what comes to a console, what its host's files do, and what is recorded and typed in it.
-use Rattle.std.specs.Prelude.{◌≡◌, ℕ, ◌+◌, min, true, List, [], ◌∷◌, ◌++◌, take, drop, Option, Some, None, Result, Ok, Err}
+use Rattle.std.specs.Prelude.{◌≡◌, ℕ, ◌+◌, ◌≤◌, min, true, All, List, [], ◌∷◌, ◌++◌, take, drop, Option, Some, None, Result, Ok, Err}
 use Rattle.std.specs.List.{flat_map}
 use Rattle.p11_lines.specs.declared.answer.Answer.{Answer}
-use Rattle.p11_lines.specs.declared.line.Line.{Line}
 use Rattle.p11_cpu.specs.State.{State}
 use Rattle.p11_line_editor.specs.History.{remembered}
-use Rattle.p11_panel.specs.Session.{SessionState, with_store}
+use Rattle.p11_panel.specs.Script.{script_lines}
+use Rattle.p11_panel.specs.Session.{LineDoes, LinesRun, SessionState, with_store}
 use Rattle.p11_store.specs.Store.{StoreState, Fetches, FailsToFetch, Puts, FailsToPut}
 use Rattle.p11_store.specs.declared.store.StoreError.{StoreError}
 use Rattle.p11_console.specs.Files.{Gives, Names, Takes, image_in, opening, wanted}
-use Rattle.p11_console.specs.Record.{ended, run_text}
+use Rattle.p11_console.specs.Record.{run_text}
 use Rattle.p11_console.specs.Runs.{typed_in}
 use Rattle.p11_console.specs.Said.{Says}
 use Rattle.p11_console.specs.State.{ConsoleState, opened}
@@ -22,7 +22,7 @@ use Rattle.p11_console.specs.declared.want.Want.{Want}
 use Rattle.p11_console.specs.declared.want.Want.TheVariants as wants
 use Rattle.p11_console.specs.declared.way.Way.{Way}
 use Rattle.p11_console.specs.declared.way.Way.TheVariants as ways
-use Rattle.p11_records.specs.Again.{Alike, Obey}
+use Rattle.p11_records.specs.Again.{Alike}
 
 -- ---- what comes to a console: each call that may change it
 
@@ -51,7 +51,7 @@ Comes (Fetched file) c c' = Gives file c.way c c'
 Comes (Written done) c c' = Takes done c.way c c'
 Comes Named c c' = Names c.way c c'
 Comes (Opened name) c c' = c' ≡ record c { way = opening name c.way }
-Comes (Keys bytes) c c' = c' ≡ record c { waiting = c.waiting ++ bytes }
+Comes (Keys bytes) c c' = All (λ byte. byte ≤ 255) bytes × (c' ≡ record c { waiting = c.waiting ++ bytes })
 Comes Ticked c c' = c' ≡ record c { ticks = min (c.ticks + 1) 4294967295 }
 Comes Closed c c' = c' ≡ record c { is_over = true }
 Comes Paused c c' = c' ≡ record c { typist = rested c.typist }
@@ -140,12 +140,13 @@ unfoldable pub Happen : {A : Type 0} → List (Event A) → Dialogue A → Dialo
 Happen [] d d' = d' ≡ d
 Happen {A} (event ∷ events) d d'' = (d' : Dialogue A) × Happens event d d' × Happen events d' d''
 
--- The record of a dialogue is the text of lines that, over the machine and the files with which it began, type the same
--- bytes and come to the same machine and files: whatever comes to the console, where no typed character waits as it begins.
+-- The record of a dialogue is a script that does it again: a session over the machine and the files with which it began can
+-- do its lines so that they type the same bytes, and come to the same machine and files, whatever comes to the console. No
+-- typed character waits as it begins.
 abbrev pub DialoguesDoAgain : Type 0 → Type 0
 DialoguesDoAgain A =
     (panel : State) (settings : Settings) (store : StoreState) (events : List (Event A)) (d : Dialogue A) (t : SessionState)
     → panel.bus.typed ≡ [] → Happen events (begun panel settings store) d → Alike (with_store panel store) t
-    → (again : List (Line A × Answer A)) × (t' : SessionState) × Obey again t t' × Alike (session_of d) t'
-    × (flat_map (λ done. ended done.0) again ≡ record_of d)
-    × (flat_map (λ done. typed_in done.1) again ≡ d.typed)
+    → (answers : List (Answer A)) × (t' : SessionState)
+    × LinesRun (LineDoes {A = A}) (script_lines (record_of d)) t answers t' × Alike (session_of d) t'
+    × (flat_map typed_in answers ≡ d.typed)

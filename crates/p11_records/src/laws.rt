@@ -14,8 +14,8 @@ pub fn two_steps_are_one()
     ensures { TwoStepsAreOne }
 {}
 
-/// The record of a dialogue is the text of lines that, over the machine and the files with which it began, type the same
-/// bytes and come to the same machine and files: whatever comes to the console.
+/// The record of a dialogue is a script that does it again: over the machine and the files with which the dialogue began, it
+/// types the same bytes and comes to the same machine and files, whatever came to the console.
 pub fn a_dialogue_is_its_record<A: Allocator>()
     ensures { DialoguesDoAgain A }
 {}
