@@ -1,14 +1,12 @@
--- What becomes of a line: it is refused and leaves all as it was, or has another answer; only a run stops.
-use Rattle.std.proofs.Common.{◌≡◌, ◌⊎◌, ℕ, ◌%◌, Bool, true, false, Option, Some, None, List, length, Result, Ok, Err, refl, sym, ap, ◌∙◌, arith, inl, inr, ◌==◌, if◌then◌else◌}
+-- What becomes of a command: it is refused and leaves all as it was, or has another answer; only a run stops.
+use Rattle.std.proofs.Common.{◌≡◌, ◌⊎◌, ℕ, ◌%◌, Bool, true, false, Option, Some, None, List, [], length, Result, Ok, Err, refl, sym, ap, ◌∙◌, arith, inl, inr, ◌==◌, if◌then◌else◌}
 use Rattle.std.specs.Prelude.{nat_le, nat_lt}
 use Rattle.std.specs.Option.{option_map_or}
 use Rattle.p11_lines.specs.declared.answer.Answer.{Answer}
 use Rattle.p11_lines.specs.declared.answer.Answer.TheVariants as answers
 use Rattle.p11_lines.specs.declared.answer.StopReason.{StopReason}
 use Rattle.p11_lines.specs.declared.fault.Fault.{Fault}
-use Rattle.p11_lines.specs.declared.fault.Fault.TheVariants.{DriveBusy, KeysFull, NoMemory, OddAddress, StoreFault}
-use Rattle.p11_lines.specs.declared.line.Line.{Line}
-use Rattle.p11_lines.specs.declared.line.Line.TheVariants as lines
+use Rattle.p11_lines.specs.declared.fault.Fault.TheVariants.{DriveBusy, KeysFull, NoMemory, OddAddress}
 use Rattle.p11_cpu.specs.State.{State}
 use Rattle.p11_cpu.specs.Operator.{console_register, start_of, set_reg_of}
 use Rattle.p11_cpu.specs.OperatorDevices.{room_of, mount_of, unmount_of}
@@ -23,12 +21,8 @@ use Rattle.p11_panel.specs.Disks.{mount_fault, on_pack}
 use Rattle.p11_panel.specs.Keys.{pressed}
 use Rattle.p11_panel.specs.Ranges.{deposit_fault, deposited, examine_fault, examined}
 use Rattle.p11_panel.specs.Refusals.{IsRefused, unless}
-use Rattle.p11_panel.specs.Session.{SessionState, Obeys, OnFile, Keeps, fault_of}
 use Rattle.p11_panel.specs.Tapes.{all_fit, tape_loaded}
-use Rattle.p11_store.specs.Store.{StoreState, FailsToFetch}
-use Rattle.p11_store.specs.declared.store.StoreError.{StoreError}
-use Rattle.p11_store.specs.declared.store.StoreError.TheVariants as errors
-use Rattle.p11_records.specs.Again.{IsRepeatable}
+use Rattle.p11_console.specs.Runs.{typed_in}
 
 -- an answer that neither refuses nor stops
 abbrev pub is_plain : {A : Type 0} → Answer A → Bool
@@ -39,7 +33,7 @@ is_plain _ = true
 -- A COMMAND
 
 -- an outcome that is plain, or a refusal that changes nothing
-abbrev Plain : {A : Type 0} → State → State × Answer A → Type 0
+abbrev pub Plain : {A : Type 0} → State → State × Answer A → Type 0
 Plain s r = (is_plain r.1 ≡ true) ⊎ ((fault : Fault) × (r ≡ (s, answers.Refused fault)))
 
 plain_unless : {A : Type 0} (fault : Option Fault) (s : State) (r : State × Answer A) → is_plain r.1 ≡ true → Plain s (unless fault s r)
@@ -79,7 +73,7 @@ runs (commands.Step n) = true
 runs (commands.Continue n) = true
 runs _ = false
 
-plain : {A : Type 0} (command : Command A) (s : State) → runs command ≡ false → Plain s (outcome command s)
+pub plain : {A : Type 0} (command : Command A) (s : State) → runs command ≡ false → Plain s (outcome command s)
 plain (commands.Mount drive image protect) s e = plain_unless (mount_fault drive image s) s (mount_of drive image protect s, answers.Done) refl
 plain (commands.Unmount drive) s e =
     plain_pack drive s _ (λ pack. plain_if (is_busy drive s.bus.disk) DriveBusy s (unmount_of drive s, answers.Done) (inl refl))
@@ -99,12 +93,12 @@ no_turns : {A : Type 0} (answer : Answer A) → is_plain answer ≡ true → tur
 no_turns (answers.Stop typed reason turns pc) e = cc
 no_turns answer e = refl
 
-plain_turns : {A : Type 0} (s : State) (r : State × Answer A) → Plain s r → turns_in r.1 ≡ 0
+pub plain_turns : {A : Type 0} (s : State) (r : State × Answer A) → Plain s r → turns_in r.1 ≡ 0
 plain_turns s r (inl e) = no_turns r.1 e
 plain_turns s r (inr (fault, e)) = ap (λ x. turns_in x.1) e
 
 -- what a command answers that is no run: nothing stops it
-abbrev Answered : {A : Type 0} → State → Answer A → State → Type 0
+abbrev pub Answered : {A : Type 0} → State → Answer A → State → Type 0
 Answered s answer s' = (is_plain answer ≡ true) ⊎ ((fault : Fault) × IsRefused fault s answer s')
 
 from_plain : {A : Type 0} (s : State) (r : State × Answer A) (answer : Answer A) (s' : State) → Plain s r → r ≡ (s', answer) → Answered s answer s'
@@ -127,78 +121,40 @@ same_some : {A X : Type 0} (found : Option X) (s : State) (show : X → Answer A
 same_some None s show other = refl
 same_some (Some x) s show other = refl
 
-save_leaves : {A : Type 0} (drive : ℕ) (s : State) (shown : Answer A) (s' : State) → CommandStep s (commands.Save drive) shown s' → s' ≡ s
+pub save_leaves : {A : Type 0} (drive : ℕ) (s : State) (shown : Answer A) (s' : State) → CommandStep s (commands.Save drive) shown s' → s' ≡ s
 save_leaves {A} drive s shown s' (inl same) =
     sym (ap (λ r. r.0) same) ∙ same_if {A = A} (nat_le drive_count drive) s _ _ refl (same_some {A = A} (contents_of (drive_of s.bus.disk drive)) s (λ pack. answers.Image (image_of pack)) _)
 save_leaves drive s shown s' (inr (inl h)) = h.1.1
 save_leaves {A} drive s shown s' (inr (inr h)) =
     absurd (omega (arith, h.1, plain_turns {A = A} s (outcome (commands.Save drive) s) (plain (commands.Save drive) s refl)))
 
--- A LINE
-
--- what a line comes to that isn't a run
-abbrev pub Outcome : {A : Type 0} → Line A → SessionState → Answer A → SessionState → Type 0
-Outcome line s answer s' =
-    (is_plain answer ≡ true)
-    ⊎ ((fault : Fault) × (answer ≡ answers.Refused fault) × (s'.machine ≡ s.machine) × (IsRepeatable line answer → s'.store.files ≡ s.store.files))
-
-left : {A : Type 0} (line : Line A) (s : SessionState) (answer : Answer A) (s' : SessionState) → s'.store.files ≡ s.store.files → Answered s.machine answer s'.machine → Outcome line s answer s'
-left line s answer s' files (inl e) = inl e
-left line s answer s' files (inr r) = inr (r.0, r.1.0, r.1.1, λ _. files)
-
-pub failed : (name : List ℕ) (error : StoreError) (s s' : StoreState) → FailsToFetch s name error s' → s'.files ≡ s.files
-failed name errors.Refused s s' h = ap (λ (x : StoreState). x.files) h.1
-failed name errors.NoMemory s s' h = ap (λ (x : StoreState). x.files) h.1
-
-on_file : {A : Type 0} (line : Line A) (name : List ℕ) (command : List ℕ → Command A) (s : SessionState) (answer : Answer A) (s' : SessionState) → ((bytes : List ℕ) → runs (command bytes) ≡ false) → OnFile name command s answer s' → Outcome line s answer s'
-on_file line name command s answer s' e (inl h) =
-    left line s answer s' (ap (λ (x : StoreState). x.files) h.1.1) (answered s.machine (command h.0) answer s'.machine (e h.0) h.2)
-on_file line name command s answer s' e (inr h) = inr (fault_of h.0, h.2, h.3, λ _. failed name h.0 s.store s'.store h.1)
-
 pub no_stop : {A : Type 0} (typed : List ℕ) (reason : StopReason) (turns pc : ℕ) (fault : Fault) → ◌≡◌ {A = Answer A} (answers.Stop typed reason turns pc) (answers.Refused fault) → ⊥
 no_stop typed reason turns pc fault e = cc
 
-shown_stop : {A : Type 0} (typed : List ℕ) (reason : StopReason) (turns pc : ℕ) (s s' : State) → Answered {A = A} s (answers.Stop typed reason turns pc) s' → ⊥
+-- only a run stops
+pub shown_stop : {A : Type 0} (typed : List ℕ) (reason : StopReason) (turns pc : ℕ) (s s' : State) → Answered {A = A} s (answers.Stop typed reason turns pc) s' → ⊥
 shown_stop typed reason turns pc s s' (inl e) = cc
 shown_stop typed reason turns pc s s' (inr (fault, r)) = no_stop typed reason turns pc fault r.0
 
-saves : {A : Type 0} (drive : ℕ) (name : List ℕ) (shown answer : Answer A) (s s' : SessionState) → s'.machine ≡ s.machine → Answered s.machine shown s'.machine → Keeps name shown s.store answer s'.store → Outcome (lines.Save drive name) s answer s'
-saves drive name (answers.Image image) answer s s' machine e (inl h) = inl (ap is_plain h.1)
-saves drive name (answers.Image image) answer s s' machine e (inr h) = inr (StoreFault, h.1, machine, λ r. absurd (r.saved drive name refl h.1))
-saves drive name (answers.Refused fault) answer s s' machine e h = inr (fault, h.0, machine, λ _. ap (λ (x : StoreState). x.files) h.1)
-saves drive name (answers.Stop typed reason turns pc) answer s s' machine e h = absurd (shown_stop typed reason turns pc s.machine s'.machine e)
-saves drive name shown answer s s' machine e h = inl (ap is_plain h.0)
+-- a command that is no run and types nothing
+no_text : {A : Type 0} (answer : Answer A) → is_plain answer ≡ true → typed_in answer ≡ []
+unfolding typed_in
+no_text (answers.Stop typed reason turns pc) e = cc
+no_text answer e = refl
 
-commanded : {A : Type 0} (line : Line A) (command : Command A) (s : SessionState) (answer : Answer A) (s' : SessionState) → runs command ≡ false → CommandStep s.machine command answer s'.machine × (s'.store ≡ s.store) → Outcome line s answer s'
-commanded line command s answer s' e h = left line s answer s' (ap (λ (x : StoreState). x.files) h.1) (answered s.machine command answer s'.machine e h.0)
+pub types_nothing : {A : Type 0} (s : State) (answer : Answer A) (s' : State) → Answered s answer s' → typed_in answer ≡ []
+unfolding typed_in
+types_nothing s answer s' (inl e) = no_text answer e
+types_nothing {A} s answer s' (inr (fault, h)) = ap typed_in h.0
 
-abbrev pub is_turns : {A : Type 0} → Line A → Bool
-is_turns (lines.Step n) = true
-is_turns (lines.Continue n) = true
-is_turns _ = false
+-- a command that is refused
+refused_is : {A : Type 0} (fault : Fault) (s s' : State) → Answered {A = A} s (answers.Refused fault) s' → s' ≡ s
+refused_is fault s s' (inl e) = cc
+refused_is fault s s' (inr (other, h)) = h.1
 
-pub comes_to : {A : Type 0} (line : Line A) (s : SessionState) (answer : Answer A) (s' : SessionState) → is_turns line ≡ false → Obeys line s answer s' → Outcome line s answer s'
-unfolding Obeys
-comes_to (lines.Mount drive name protect) s answer s' e h = on_file (lines.Mount drive name protect) name (λ image. commands.Mount drive image protect) s answer s' (λ _. refl) h
-comes_to (lines.Unmount drive) s answer s' e h = commanded (lines.Unmount drive) (commands.Unmount drive) s answer s' refl h
-comes_to (lines.Save drive name) s answer s' e h =
-    saves drive name h.0 answer s s' (save_leaves drive s.machine h.0 s'.machine h.1) (answered s.machine (commands.Save drive) h.0 s'.machine refl h.1) h.2
-comes_to (lines.Changed drive) s answer s' e h = commanded (lines.Changed drive) (commands.Changed drive) s answer s' refl h
-comes_to (lines.Load name) s answer s' e h = on_file (lines.Load name) name (λ tape. commands.Load tape) s answer s' (λ _. refl) h
-comes_to (lines.Examine address count) s answer s' e h = commanded (lines.Examine address count) (commands.Examine address count) s answer s' refl h
-comes_to (lines.Deposit address words) s answer s' e h = commanded (lines.Deposit address words) (commands.Deposit address words) s answer s' refl h
-comes_to (lines.Start address) s answer s' e h = commanded (lines.Start address) (commands.Start address) s answer s' refl h
-comes_to (lines.Key text) s answer s' e h = commanded (lines.Key text) (commands.Key text) s answer s' refl h
-comes_to lines.Tick s answer s' e h = commanded lines.Tick commands.Tick s answer s' refl h
-comes_to (lines.Clock period) s answer s' e h = commanded (lines.Clock period) (commands.Clock period) s answer s' refl h
-comes_to (lines.Switches word) s answer s' e h = commanded (lines.Switches word) (commands.Switches word) s answer s' refl h
-comes_to (lines.Set register value) s answer s' e h = commanded (lines.Set register value) (commands.Set register value) s answer s' refl h
-comes_to (lines.Step n) s answer s' e h = cc
-comes_to (lines.Continue n) s answer s' e h = cc
-comes_to lines.Regs s answer s' e h = commanded lines.Regs commands.Regs s answer s' refl h
-comes_to lines.Device s answer s' e h = commanded lines.Device commands.Device s answer s' refl h
-comes_to lines.Flush s answer s' e h = commanded lines.Flush commands.Flush s answer s' refl h
+pub refused_leaves : {A : Type 0} (command : Command A) (fault : Fault) (s s' : State) → runs command ≡ false → CommandStep s command (answers.Refused fault) s' → s' ≡ s
+refused_leaves {A} command fault s s' e h = refused_is {A = A} fault s s' (answered s command (answers.Refused fault) s' e h)
 
-pub no_other : {A : Type 0} (line : Line A) (typed : List ℕ) (reason : StopReason) (turns pc : ℕ) (s s' : SessionState) → Outcome line s (answers.Stop typed reason turns pc) s' → ⊥
-no_other line typed reason turns pc s s' (inl e) = cc
-no_other {A} line typed reason turns pc s s' (inr h) = no_stop {A = A} typed reason turns pc h.0 h.1
+-- an answer that doesn't refuse
+abbrev pub Answers : {A : Type 0} → Answer A → Type 0
+Answers answer = (fault : Fault) → answer ≡ answers.Refused fault → ⊥

@@ -1,38 +1,33 @@
 -- The lines of a record do again what was done.
-use Rattle.std.proofs.Common.{◌≡◌, ℕ, zero, suc, Bool, true, false, ◌==◌, if◌then◌else◌, List, [], ◌∷◌, ◌++◌, Option, None, Some, refl, sym, ap, subst, ◌∙◌, append-nil, arith, inl, inr}
+use Rattle.std.proofs.Common.{◌≡◌, ℕ, zero, suc, All, map, Bool, true, false, ◌==◌, if◌then◌else◌, List, [], ◌∷◌, ◌++◌, Option, None, Some, refl, sym, ap, subst, ◌∙◌, append-nil, arith, inl, inr}
 use Rattle.std.specs.List.{flat_map}
 use Rattle.std.proofs.lemmas.Grind.{flat_map-append}
-use Rattle.std.proofs.lemmas.List.Elements.{All-head, All-tail}
+use Rattle.std.proofs.lemmas.List.Elements.{All-nil, All-cons}
 use Rattle.p11_lines.specs.declared.answer.Answer.{Answer}
 use Rattle.p11_lines.specs.declared.answer.Answer.TheVariants as answers
-use Rattle.p11_lines.specs.declared.answer.StopReason.{StopReason}
-use Rattle.p11_lines.specs.declared.fault.Fault.{Fault}
 use Rattle.p11_lines.specs.declared.line.Line.{Line}
 use Rattle.p11_lines.specs.declared.line.Line.TheVariants as lines
+use Rattle.p11_lines.specs.Calls.LineText.{line_text}
 use Rattle.p11_cpu.specs.State.{State}
-use Rattle.p11_cpu.specs.OperatorDevices.{take_typed_of}
-use Rattle.p11_cpu.specs.Turns.{after_turns}
-use Rattle.p11_unibus.specs.State.{BusState}
-use Rattle.p11_unibus.specs.Events.{bus_after_take}
 use Rattle.p11_panel.specs.declared.command.Command.{Command}
 use Rattle.p11_panel.specs.declared.command.Command.TheVariants as commands
 use Rattle.p11_panel.specs.Commands.{CommandStep}
-use Rattle.p11_panel.specs.Session.{SessionState, with_store, Obeys, OnFile, Keeps, fault_of}
-use Rattle.p11_store.specs.Store.{StoreState, Has, KeepsOthers, Puts, asked, with_call}
-use Rattle.p11_records.specs.Again.{RunsAreMadeAgain, RecordsDoAgain, IsRepeatable, Repeatable, Alike, Obey}
-use Rattle.p11_records.specs.Deeds.{Deed, Tried, Ran, Asked, AsksFor, Happens, Happen, ended, is_of_run, recorded, recorded_of, run_recorded, typed_by, typed_in}
-use Rattle.p11_records.proofs.OutcomeLemmas.{Outcome, comes_to, failed, is_turns, no_other, no_stop}
-use Rattle.p11_records.proofs.RunLemmas.{Made, made_by, refused_run}
+use Rattle.p11_panel.specs.Script.{script_lines}
+use Rattle.p11_panel.specs.Session.{LineDoes, LinesRun, SessionState, with_store, Obeys, OnFile, Keeps, fault_of}
+use Rattle.p11_store.specs.Store.{StoreState, FailsToFetch, Has, KeepsOthers, Puts, asked, with_call}
+use Rattle.p11_store.specs.declared.store.StoreError.{StoreError}
+use Rattle.p11_store.specs.declared.store.StoreError.TheVariants as errors
+use Rattle.p11_console.specs.Record.{ended, run_text}
+use Rattle.p11_console.specs.Runs.{typed_in}
+use Rattle.p11_records.specs.Again.{Alike, AreAsked, IsOfScript, Obey}
+use Rattle.p11_records.proofs.OutcomeLemmas.{Answers}
+use Rattle.p11_records.proofs.ScriptLemmas.{asked as lines_asked}
 
 -- THE SAME OVER A SESSION THAT IS ALIKE
 
 -- a line with this answer is done again
 abbrev Repeats : {A : Type 0} → Line A → Answer A → SessionState → SessionState → Type 0
 Repeats line answer s' t = (t' : SessionState) × Obeys line t answer t' × Alike s' t'
-
--- an answer that doesn't refuse
-abbrev Answers : {A : Type 0} → Answer A → Type 0
-Answers answer = (fault : Fault) → answer ≡ answers.Refused fault → ⊥
 
 -- a command does the same
 same_step : {A : Type 0} (command : Command A) (answer : Answer A) (s t : SessionState) (after : State) → Alike s t → CommandStep s.machine command answer after → CommandStep t.machine command answer after
@@ -108,123 +103,53 @@ repeats lines.Flush answer s s' t e alike h = commanded commands.Flush answer s 
 -- WHAT IS NOT RECORDED LEAVES NO TRACE
 
 -- nothing is seen of it
-abbrev Unseen : SessionState → SessionState → Type 0
+abbrev pub Unseen : SessionState → SessionState → Type 0
 Unseen s s' = (s'.machine ≡ s.machine) × (s'.store.files ≡ s.store.files)
 
 still : (s s' t : SessionState) → Unseen s s' → Alike s t → Alike s' t
 still s s' t same alike = (alike.0 ∙ sym same.0, alike.1 ∙ sym same.1)
 
-other_refused : {A : Type 0} (line : Line A) (fault : Fault) (s s' : SessionState) → IsRepeatable line (answers.Refused fault) → Outcome line s (answers.Refused fault) s' → Unseen s s'
-other_refused line fault s s' r (inl e) = cc
-other_refused line fault s s' r (inr h) = (h.2, h.3 r)
+pub failed : (name : List ℕ) (error : StoreError) (s s' : StoreState) → FailsToFetch s name error s' → s'.files ≡ s.files
+failed name errors.Refused s s' h = ap (λ (x : StoreState). x.files) h.1
+failed name errors.NoMemory s s' h = ap (λ (x : StoreState). x.files) h.1
 
--- a line that is refused
-refused : {A : Type 0} (line : Line A) (fault : Fault) (s s' : SessionState) → IsRepeatable line (answers.Refused fault) → Obeys line s (answers.Refused fault) s' → Unseen s s'
-unfolding Obeys
-refused {A} (lines.Step n) fault s s' r h = (refused_run A false n fault s.machine s'.machine h.0, ap (λ (x : StoreState). x.files) h.1)
-refused {A} (lines.Continue n) fault s s' r h = (refused_run A true n fault s.machine s'.machine h.0, ap (λ (x : StoreState). x.files) h.1)
-refused line fault s s' r h = other_refused line fault s s' r (comes_to line s (answers.Refused fault) s' refl h)
+-- LINES THAT DO AGAIN WHAT WAS DONE
 
--- a file of a script
-asked_for : (name : List ℕ) (bytes : Option (List ℕ)) (s s' : SessionState) → s'.machine ≡ s.machine → AsksFor name bytes s.store s'.store → Unseen s s'
-asked_for name (Some bytes) s s' machine h = (machine, ap (λ (x : StoreState). x.files) h.1)
-asked_for name None s s' machine h = (machine, failed name h.0 s.store s'.store h.1)
+-- they are lines of a script
+abbrev pub AreOfScript : {A : Type 0} → List (Line A × Answer A) → Type 0
+AreOfScript [] = Unit {0}
+AreOfScript (done ∷ others) = IsOfScript done.0 × AreOfScript others
 
--- A RUN
-
-by_kind : {A : Type 0} (line : Line A) (typed : List ℕ) (reason : StopReason) (turns pc : ℕ) (s s' : SessionState) (kind : Bool) → is_turns line ≡ kind → Obeys line s (answers.Stop typed reason turns pc) s' → is_turns line ≡ true
-by_kind line typed reason turns pc s s' true e h = e
-by_kind line typed reason turns pc s s' false e h = absurd (no_other line typed reason turns pc s s' (comes_to line s (answers.Stop typed reason turns pc) s' e h))
-
--- only turns stop
-stops_run : {A : Type 0} (line : Line A) (typed : List ℕ) (reason : StopReason) (turns pc : ℕ) (s s' : SessionState) → Obeys line s (answers.Stop typed reason turns pc) s' → is_turns line ≡ true
-stops_run {A} line typed reason turns pc s s' h = by_kind line typed reason turns pc s s' (is_turns line) refl h
-
-taken_none : (b : BusState) → b.typed ≡ [] → bus_after_take b ≡ b
-unfolding bus_after_take
-taken_none b e = ap (λ (t : List ℕ). record b { typed = t }) (sym e)
-
-take_none : (s : State) → s.bus.typed ≡ [] → take_typed_of s ≡ s
-unfolding take_typed_of
-take_none s e = ap (λ (b : BusState). record s { bus = b }) (taken_none s.bus e)
-
-of_turns : {A : Type 0} (line : Line A) → is_turns line ≡ true → is_of_run line ≡ true
-of_turns (lines.Step n) e = refl
-of_turns (lines.Continue n) e = refl
-of_turns (lines.Key text) e = refl
-of_turns line e = e
-
-first_turn : (s : State) → after_turns 0 s ≡ s
-unfolding after_turns
-first_turn s = refl
-
--- what a run of no turn comes to
-no_turns : (asked : Bool) (n : ℕ) (typed : List ℕ) (pc : ℕ) (s s' : State) → typed ≡ [] → Made asked n 0 typed pc s s' → s' ≡ s
-no_turns asked n typed pc s s' none run =
-    let nothing : s.bus.typed ≡ [] = ap (λ (x : State). x.bus.typed) (sym (first_turn s)) ∙ run.text ∙ none in
-    run.state ∙ ap take_typed_of (first_turn s) ∙ take_none s nothing
-
-no_turn : {A : Type 0} (line : Line A) (typed : List ℕ) (reason : StopReason) (pc : ℕ) (s s' : SessionState) → typed ≡ [] → is_turns line ≡ true → Obeys line s (answers.Stop typed reason 0 pc) s' → Unseen s s'
-unfolding Obeys
-no_turn {A} (lines.Step n) typed reason pc s s' none e h =
-    (no_turns false n typed pc s.machine s'.machine none (made_by {A = A} false n typed reason 0 pc s.machine s'.machine h.0), ap (λ (x : StoreState). x.files) h.1)
-no_turn {A} (lines.Continue n) typed reason pc s s' none e h =
-    (no_turns true n typed pc s.machine s'.machine none (made_by {A = A} true n typed reason 0 pc s.machine s'.machine h.0), ap (λ (x : StoreState). x.files) h.1)
-no_turn line typed reason pc s s' none e h = cc
-
--- WHAT THE RECORD HAS OF A DEED
-
--- lines that do again what a deed did: with the text that the record has of it
-abbrev Again : Type 0 → List ℕ → List ℕ → SessionState → SessionState → Type 0
+-- they have this text, type these bytes, and come there
+abbrev pub Again : Type 0 → List ℕ → List ℕ → SessionState → SessionState → Type 0
 Again A text typed s' t =
     (again : List (Line A × Answer A)) × (t' : SessionState) × Obey again t t' × Alike s' t'
-    × (flat_map (λ done. ended done.0) again ≡ text) × (flat_map (λ done. typed_in done.1) again ≡ typed)
+    × (flat_map (λ done. ended done.0) again ≡ text) × (flat_map (λ done. typed_in done.1) again ≡ typed) × AreOfScript again
 
-none : (A : Type 0) (s s' t : SessionState) → Unseen s s' → Alike s t → Again A [] [] s' t
+pub none : (A : Type 0) (s t : SessionState) → Alike s t → Again A [] [] s t
 unfolding Obey
-none A s s' t same alike = ([], t, refl, still s s' t same alike, refl, refl)
+none A s t alike = ([], t, refl, alike, refl, refl, tt)
 
-one : {A : Type 0} (line : Line A) (answer : Answer A) (s' t : SessionState) → Repeats line answer s' t → Again A (ended line) (typed_in answer) s' t
+-- what isn't seen is no matter
+pub unseen : (A : Type 0) (text typed : List ℕ) (s s' t : SessionState) → Unseen s s' → Again A text typed s t → Again A text typed s' t
+unseen A text typed s s' t same done = (done.0, done.1, done.2, still s s' done.1 same done.3, done.4, done.5, done.6)
+
+one : {A : Type 0} (line : Line A) (answer : Answer A) (s' t : SessionState) → IsOfScript line → Repeats line answer s' t → Again A (ended line) (typed_in answer) s' t
 unfolding Obey
-one line answer s' t h =
-    ((line, answer) ∷ [], h.0, (h.0, h.1, refl), h.2, append-nil (ended line), append-nil (typed_in answer))
+one line answer s' t fits h =
+    ((line, answer) ∷ [], h.0, (h.0, h.1, refl), h.2, append-nil (ended line), append-nil (typed_in answer), (fits, tt))
 
-run_none : (A : Type 0) → run_recorded A zero ≡ []
-unfolding run_recorded
+pub run_none : (A : Type 0) → run_text A zero ≡ []
+unfolding run_text
 run_none A =
     let same : (zero == 0) ≡ true = grind arith in
-    ap (λ (b : Bool). if b then [] else ended {A = A} (lines.Step zero)) same
+    ap (λ (b : Bool). if b then [] else line_text {A = A} (lines.Step zero) ++ 10 ∷ []) same
 
-run_kept : (A : Type 0) (n : ℕ) → run_recorded A (suc n) ≡ ended {A = A} (lines.Step (suc n))
-unfolding run_recorded
+pub run_kept : (A : Type 0) (n : ℕ) → run_text A (suc n) ≡ ended {A = A} (lines.Step (suc n))
+unfolding run_text ended
 run_kept A n =
     let other : (suc n == 0) ≡ false = grind arith in
-    ap (λ (b : Bool). if b then [] else ended {A = A} (lines.Step (suc n))) other
-
-run : {A : Type 0} → RunsAreMadeAgain A → (line : Line A) (typed : List ℕ) (reason : StopReason) (turns pc : ℕ) (s s' t : SessionState) → IsRepeatable line (answers.Stop typed reason turns pc) → Alike s t → Obeys line s (answers.Stop typed reason turns pc) s' → Again A (run_recorded A turns) typed s' t
-unfolding typed_in
-run {A} law line typed reason zero pc s s' t r alike h =
-    let nothing : typed ≡ [] = r.typed typed reason pc refl in
-    let same : Unseen s s' = no_turn line typed reason pc s s' nothing (stops_run line typed reason 0 pc s s' h) h in
-    let empty : Again A (run_recorded A zero) [] s' t = subst (λ (x : List ℕ). Again A x [] s' t) (sym (run_none A)) (none A s s' t same alike) in
-    subst (λ (x : List ℕ). Again A (run_recorded A zero) x s' t) (sym nothing) empty
-run {A} law line typed reason (suc n) pc s s' t r alike h =
-    let again : (other : StopReason) × Obeys {A = A} (lines.Step (suc n)) s (answers.Stop typed other (suc n) pc) s' =
-    law line typed reason (suc n) pc s s' (of_turns line (stops_run line typed reason (suc n) pc s s' h)) h (omega arith) in
-    subst (λ (x : List ℕ). Again A x typed s' t) (sym (run_kept A n))
-    (one {A = A} (lines.Step (suc n)) (answers.Stop typed again.0 (suc n) pc) s' t (repeats {A = A} (lines.Step (suc n)) (answers.Stop typed again.0 (suc n) pc) s s' t (λ fault e. no_stop {A = A} typed again.0 (suc n) pc fault e) alike again.1))
-
-line_again : {A : Type 0} → RunsAreMadeAgain A → (line : Line A) (answer : Answer A) (s s' t : SessionState) → IsRepeatable line answer → Alike s t → Obeys line s answer s' → Again A (recorded line answer) (typed_in answer) s' t
-unfolding recorded typed_in
-line_again {A} law line (answers.Refused fault) s s' t r alike h = none A s s' t (refused line fault s s' r h) alike
-line_again law line (answers.Stop typed reason turns pc) s s' t r alike h = run law line typed reason turns pc s s' t r alike h
-line_again law line answer s s' t r alike h = one line answer s' t (repeats line answer s s' t (λ fault e. cc) alike h)
-
-deed_again : {A : Type 0} → RunsAreMadeAgain A → (deed : Deed A) (s s' t : SessionState) → Repeatable deed → Alike s t → Happens deed s s' → Again A (recorded_of deed) (typed_by deed) s' t
-unfolding Happens recorded_of typed_by
-deed_again law (Tried line answer) s s' t r alike h = line_again law line answer s s' t r alike h
-deed_again law (Ran line answer) s s' t r alike h = line_again law line answer s s' t r alike h.0
-deed_again {A} law (Asked name bytes) s s' t r alike h = none A s s' t (asked_for name bytes s s' h.0 h.1) alike
+    ap (λ (b : Bool). if b then [] else line_text {A = A} (lines.Step (suc n)) ++ 10 ∷ []) other
 
 obey_more : {A : Type 0} (first others : List (Line A × Answer A)) (s s' s'' : SessionState) → Obey first s s' → Obey others s' s'' → Obey (first ++ others) s s''
 unfolding Obey
@@ -234,6 +159,10 @@ obey_more (done ∷ first) others s s' s'' h next = (h.0, h.1, obey_more first o
 joined : {X : Type 0} (f : X → List ℕ) (xs ys : List X) (a b : List ℕ) → flat_map f xs ≡ a → flat_map f ys ≡ b → flat_map f (xs ++ ys) ≡ a ++ b
 joined f xs ys a b e h = flat_map-append f xs ys ∙ ap (λ (x : List ℕ). x ++ flat_map f ys) e ∙ ap (λ (y : List ℕ). a ++ y) h
 
+all_of_script : {A : Type 0} (first others : List (Line A × Answer A)) → AreOfScript first → AreOfScript others → AreOfScript (first ++ others)
+all_of_script [] others a b = b
+all_of_script (done ∷ first) others a b = (a.0, all_of_script first others a.1 b)
+
 both : {A : Type 0} (text more typed others : List ℕ) (s' s'' t : SessionState) → (first : Again A text typed s' t) → Again A more others s'' first.1 → Again A (text ++ more) (typed ++ others) s'' t
 both text more typed others s' s'' t first next = (
   first.0 ++ next.0,
@@ -242,14 +171,46 @@ both text more typed others s' s'' t first next = (
   next.3,
   joined (λ done. ended done.0) first.0 next.0 text more first.4 next.4,
   joined (λ done. typed_in done.1) first.0 next.0 typed others first.5 next.5,
+  all_of_script first.0 next.0 first.6 next.6,
 )
 
-pub done_again : (A : Type 0) → RunsAreMadeAgain A → RecordsDoAgain A
-unfolding Happen Obey
-done_again A law [] s s' t h all alike =
-    none A s s' t (ap (λ (x : SessionState). x.machine) h, ap (λ (x : SessionState). x.store.files) h) alike
-done_again A law (deed ∷ deeds) s s' t h all alike =
-    let first : Again A (recorded_of deed) (typed_by deed) h.0 t =
-    deed_again law deed s h.0 t (All-head Repeatable deed deeds all) alike h.1 in
-    both {A = A} (recorded_of deed) (flat_map recorded_of deeds) (typed_by deed) (flat_map typed_by deeds) h.0 s' t first
-    (done_again A law deeds h.0 s' first.1 h.2 (All-tail Repeatable deed deeds all) first.3)
+-- one line more, whose answer doesn't refuse
+pub one_more : {A : Type 0} (text typed : List ℕ) (line : Line A) (answer : Answer A) (s s' t : SessionState) → IsOfScript line → Answers answer → Again A text typed s t → Obeys line s answer s' → Again A (text ++ ended line) (typed ++ typed_in answer) s' t
+one_more {A} text typed line answer s s' t fits answers_it done h =
+    both {A = A} text (ended line) typed (typed_in answer) s s' t done (one line answer s' done.1 fits (repeats line answer s s' done.1 answers_it done.3 h))
+
+-- AS A SCRIPT
+
+pub lines_of : {A : Type 0} → List (Line A × Answer A) → List (Line A)
+lines_of again = map (λ done. done.0) again
+
+pub answers_of : {A : Type 0} → List (Line A × Answer A) → List (Answer A)
+answers_of again = map (λ done. done.1) again
+
+fit_all : {A : Type 0} (again : List (Line A × Answer A)) → AreOfScript again → All IsOfScript (lines_of again)
+unfolding lines_of
+fit_all {A} [] fit = All-nil (IsOfScript {A = A})
+fit_all {A} (done ∷ others) fit = All-cons (IsOfScript {A = A}) done.0 (lines_of others) fit.0 (fit_all others fit.1)
+
+asked_for : {A : Type 0} (again : List (Line A × Answer A)) (s s' : SessionState) → Obey again s s' → AreAsked (lines_of again) s (answers_of again) s'
+unfolding Obey AreAsked lines_of answers_of
+asked_for [] s s' h = h
+asked_for (done ∷ others) s s' h = (h.0, inl h.1, asked_for others h.0 s' h.2)
+
+same_lines : {A : Type 0} (again : List (Line A × Answer A)) → flat_map ended (lines_of again) ≡ flat_map (λ done. ended done.0) again
+unfolding lines_of
+same_lines [] = refl
+same_lines (done ∷ others) = ap (λ (x : List ℕ). ended done.0 ++ x) (same_lines others)
+
+same_answers : {A : Type 0} (again : List (Line A × Answer A)) → flat_map typed_in (answers_of again) ≡ flat_map (λ done. typed_in done.1) again
+unfolding answers_of
+same_answers [] = refl
+same_answers (done ∷ others) = ap (λ (x : List ℕ). typed_in done.1 ++ x) (same_answers others)
+
+-- a session whose script has this text does so
+pub played : (A : Type 0) (text typed : List ℕ) (s' t : SessionState) → Again A text typed s' t → (answers : List (Answer A)) × (t' : SessionState) × LinesRun (LineDoes {A = A}) (script_lines text) t answers t' × Alike s' t' × (flat_map typed_in answers ≡ typed)
+played A text typed s' t done =
+    let lines : List (Line A) = lines_of done.0 in
+    let run : LinesRun (LineDoes {A = A}) (script_lines (flat_map ended lines)) t (answers_of done.0) done.1 =
+    (lines_asked lines (answers_of done.0) t done.1 (fit_all done.0 done.6)).1 (asked_for done.0 t done.1 done.2) in
+    (answers_of done.0, done.1, subst (λ (x : List ℕ). LinesRun (LineDoes {A = A}) (script_lines x) t (answers_of done.0) done.1) (same_lines done.0 ∙ done.4) run, done.3, same_answers done.0 ∙ done.5)

@@ -23,7 +23,7 @@ use Rattle.p11_panel.specs.Session.{Obeys}
 use Rattle.p11_panel.proofs.RunLemmas.{turns_after}
 use Rattle.p11_panel.proofs.RunOutcomes.{run_steps, stopped_as}
 use Rattle.p11_records.specs.Again.{RunsAreMadeAgain, TwoStepsAreOne}
-use Rattle.p11_records.proofs.OutcomeLemmas.{comes_to, no_other, no_stop}
+use Rattle.p11_records.proofs.OutcomeLemmas.{answered, no_stop, shown_stop}
 
 -- HOW MANY TURNS ARE MADE
 
@@ -49,7 +49,7 @@ none_before p a (suc n) end e j from below =
           ]
     ]
 
-within : (asked : Bool) (n : ℕ) (s : State) → turns_made asked n s ≤ n
+pub within : (asked : Bool) (n : ℕ) (s : State) → turns_made asked n s ≤ n
 unfolding turns_made
 within asked n s = found_within (ends_after asked s) 0 n n (omega arith)
 
@@ -58,7 +58,7 @@ not_first true b e = cc
 not_first false b e = refl
 
 -- before the last of its turns a run hasn't halted
-ran_on : (asked : Bool) (n : ℕ) (s : State) (j : ℕ) → j < turns_made asked n s → last_halted j s ≡ false
+pub ran_on : (asked : Bool) (n : ℕ) (s : State) (j : ℕ) → j < turns_made asked n s → last_halted j s ≡ false
 unfolding turns_made ends_after
 ran_on asked n s j below = not_first (last_halted j s) _ (none_before (ends_after asked s) 0 n n (omega arith) j (omega arith) below)
 
@@ -91,11 +91,11 @@ step_of k s ran =
 
 -- STEP IS ALLOWED
 
-refuses : {F : Type 0} (test : Bool) (f : F) → (if test then Some f else None) ≡ None → test ≡ false
+pub refuses : {F : Type 0} (test : Bool) (f : F) → (if test then Some f else None) ≡ None → test ≡ false
 refuses true f e = cc
 refuses false f e = refl
 
-tests_of : (none most late : Bool) → (none || most || late) ≡ false → (most ≡ false) × (late ≡ false)
+pub tests_of : (none most late : Bool) → (none || most || late) ≡ false → (most ≡ false) × (late ≡ false)
 tests_of true most late e = cc
 tests_of false true late e = cc
 tests_of false false true e = cc
@@ -148,10 +148,10 @@ run_outcome : (A : Type 0) (asked : Bool) (n : ℕ) (s : State) → outcome {A =
 run_outcome A true n s = refl
 run_outcome A false n s = refl
 
-by_fault : (A : Type 0) (asked : Bool) (n : ℕ) (s : State) (fault : Option Fault) → step_fault n s ≡ fault → outcome {A = A} (run_command asked n) s ≡ unless fault s (whole_run asked n s)
+pub by_fault : (A : Type 0) (asked : Bool) (n : ℕ) (s : State) (fault : Option Fault) → step_fault n s ≡ fault → outcome {A = A} (run_command asked n) s ≡ unless fault s (whole_run asked n s)
 by_fault A asked n s fault e = run_outcome A asked n s ∙ ap (λ f. unless {A = A} f s (whole_run asked n s)) e
 
-whole_turns : (A : Type 0) (asked : Bool) (n : ℕ) (s : State) → turns_in {A = A} (whole_run asked n s).1 ≡ turns_made asked n s
+pub whole_turns : (A : Type 0) (asked : Bool) (n : ℕ) (s : State) → turns_in {A = A} (whole_run asked n s).1 ≡ turns_made asked n s
 unfolding whole_run
 whole_turns A asked n s = refl
 
@@ -189,18 +189,22 @@ refused_by A asked n fault s s' first e (inr (inr h)) = absurd (no_stop {A = A} 
 pub refused_run : (A : Type 0) (asked : Bool) (n : ℕ) (fault : Fault) (s s' : State) → CommandStep {A = A} s (run_command asked n) (answers.Refused fault) s' → s' ≡ s
 refused_run A asked n fault s s' h = refused_by A asked n fault s s' (step_fault n s) refl h
 
-again : (A : Type 0) (asked : Bool) (n k : ℕ) (typed : List ℕ) (pc : ℕ) (s s' : State) → Made asked n k typed pc s s' → 0 < k → (other : StopReason) × CommandStep {A = A} s (commands.Step k) (answers.Stop typed other k pc) s'
-again A asked n k typed pc s s' run some =
+-- a step of so many turns comes to the state after them, if none but the last halts
+pub as_step : (A : Type 0) (k : ℕ) (typed : List ℕ) (pc : ℕ) (s s' : State) → step_fault k s ≡ None → ((j : ℕ) → j < k → last_halted j s ≡ false) → s' ≡ take_typed_of (after_turns k s) → (after_turns k s).bus.typed ≡ typed → (after_turns k s).processor.registers.pc ≡ pc → (other : StopReason) × CommandStep {A = A} s (commands.Step k) (answers.Stop typed other k pc) s'
+as_step A k typed pc s s' free ran state typed_so counter_so =
     let last : State = after_turns k s in
     let other : StopReason = end_of (last_halted k s) in
-    let text : ◌≡◌ {A = Answer A} (answers.Stop last.bus.typed other k last.processor.registers.pc) (answers.Stop typed other k last.processor.registers.pc) = ap (λ (t : List ℕ). answers.Stop t other k last.processor.registers.pc) run.text in
-    let counter : ◌≡◌ {A = Answer A} (answers.Stop typed other k last.processor.registers.pc) (answers.Stop typed other k pc) = ap (λ (p : ℕ). answers.Stop typed other k p) run.counter in
-    let few : k ≤ n = omega (arith, run.made, within asked n s) in (
+    let text : ◌≡◌ {A = Answer A} (answers.Stop last.bus.typed other k last.processor.registers.pc) (answers.Stop typed other k last.processor.registers.pc) = ap (λ (t : List ℕ). answers.Stop t other k last.processor.registers.pc) typed_so in
+    let counter : ◌≡◌ {A = Answer A} (answers.Stop typed other k last.processor.registers.pc) (answers.Stop typed other k pc) = ap (λ (p : ℕ). answers.Stop typed other k p) counter_so in (
       other,
-      run_steps {A = A} false k k s other last (answers.Stop typed other k pc) s' (allowed k n s some few run.free)
-          (step_of k s (λ j below. ran_on asked n s j (omega (arith, below, run.made))))
-          (stopped_as other k last s' (answers.Stop typed other k pc) run.state (text ∙ counter)),
+      run_steps {A = A} false k k s other last (answers.Stop typed other k pc) s' free (step_of k s ran)
+          (stopped_as other k last s' (answers.Stop typed other k pc) state (text ∙ counter)),
     )
+
+again : (A : Type 0) (asked : Bool) (n k : ℕ) (typed : List ℕ) (pc : ℕ) (s s' : State) → Made asked n k typed pc s s' → 0 < k → (other : StopReason) × CommandStep {A = A} s (commands.Step k) (answers.Stop typed other k pc) s'
+again A asked n k typed pc s s' run some =
+    let few : k ≤ n = omega (arith, run.made, within asked n s) in
+    as_step A k typed pc s s' (allowed k n s some few run.free) (λ j below. ran_on asked n s j (omega (arith, below, run.made))) run.state run.text run.counter
 
 pub made_again : (A : Type 0) → RunsAreMadeAgain A
 unfolding Obeys
@@ -211,7 +215,7 @@ made_again A (lines.Continue n) typed reason turns pc s s' of_run h some =
     let step = again A true n turns typed pc s.machine s'.machine (made_by {A = A} true n typed reason turns pc s.machine s'.machine h.0) some in
     (step.0, (step.1, h.1))
 made_again A (lines.Key text) typed reason turns pc s s' of_run h some =
-    absurd (no_other {A = A} (lines.Key text) typed reason turns pc s s' (comes_to (lines.Key text) s (answers.Stop typed reason turns pc) s' refl h))
+    absurd (shown_stop {A = A} typed reason turns pc s.machine s'.machine (answered s.machine (commands.Key text) (answers.Stop typed reason turns pc) s'.machine refl h.0))
 made_again A line typed reason turns pc s s' of_run h some = cc
 
 -- TWO STEPS ARE ONE
@@ -225,7 +229,7 @@ none_halted : (s : State) → last_halted 0 s ≡ false
 unfolding last_halted
 none_halted s = refl
 
-halted_after : (j k : ℕ) (s : State) → last_halted k s ≡ false → last_halted j (after_turns k s) ≡ last_halted (k + j) s
+pub halted_after : (j k : ℕ) (s : State) → last_halted k s ≡ false → last_halted j (after_turns k s) ≡ last_halted (k + j) s
 halted_after zero k s ran =
     let none : k ≡ k + 0 = omega arith in
     none_halted (after_turns k s) ∙ sym ran ∙ ap (λ n. last_halted n s) none

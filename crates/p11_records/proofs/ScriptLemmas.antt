@@ -13,7 +13,7 @@ use Rattle.p11_lines.specs.Calls.LineText.{line_text, FitsGrammar}
 use Rattle.p11_lines.proofs.ReadBack.{line_from-line_text, visible-line_text}
 use Rattle.p11_panel.specs.Script.{pieces_of, without_cr, ended_lines, script_lines}
 use Rattle.p11_panel.specs.Session.{SessionState, Asks, has_answer, is_silent, LineDoes, LinesRun}
-use Rattle.p11_records.specs.Deeds.{ended}
+use Rattle.p11_console.specs.Record.{ended}
 use Rattle.p11_records.specs.Again.{IsOfScript, AreAsked}
 
 -- a text with no control character is one piece, and has no CR at its end
@@ -76,6 +76,7 @@ not_none [] spoken = cc
 not_none (byte ∷ text) spoken = omega arith
 
 record_line : {A : Type 0} (line : Line A) (lines : List (Line A)) → FitsGrammar line → script_lines (flat_map ended (line ∷ lines)) ≡ line_text line ∷ script_lines (flat_map ended lines)
+unfolding ended
 record_line line lines fits =
     let visible = visible-line_text line fits in
     ap script_lines (append_assoc (line_text line) (10 ∷ []) (flat_map ended lines))

@@ -1,11 +1,10 @@
 -- A record does again what was done.
-use Rattle.std.specs.Prelude.{◌≡◌, ◌≢◌, ◌↔◌, ℕ, ◌+◌, ◌<◌, ◌≤◌, true, false, List, [], ◌∷◌, length, Some, All, ⊤}
+use Rattle.std.specs.Prelude.{◌≡◌, ◌↔◌, ℕ, ◌+◌, ◌<◌, ◌≤◌, Bool, true, false, List, [], ◌∷◌, length, Some, All}
 use Rattle.std.specs.List.{flat_map}
 use Rattle.p11_lines.specs.declared.answer.Answer.{Answer}
 use Rattle.p11_lines.specs.declared.answer.Answer.TheVariants as answers
 use Rattle.p11_lines.specs.declared.answer.StopReason.{StopReason}
 use Rattle.p11_lines.specs.declared.answer.StopReason.TheVariants as reasons
-use Rattle.p11_lines.specs.declared.fault.Fault.TheVariants.{StoreFault}
 use Rattle.p11_lines.specs.declared.line.Line.{Line}
 use Rattle.p11_lines.specs.declared.line.Line.TheVariants as lines
 use Rattle.p11_lines.specs.Calls.LineText.{line_text, FitsGrammar}
@@ -13,7 +12,14 @@ use Rattle.p11_cpu.specs.State.{State}
 use Rattle.p11_panel.specs.Calls.Runs.{IsRun, stops_idling}
 use Rattle.p11_panel.specs.Script.{script_lines}
 use Rattle.p11_panel.specs.Session.{SessionState, Obeys, Asks, LineDoes, LinesRun}
-use Rattle.p11_records.specs.Deeds.{Deed, Tried, Ran, Happen, ended, is_of_run, recorded_of, typed_by, typed_in}
+use Rattle.p11_console.specs.Record.{ended}
+
+-- keys and turns, of which a run is made
+abbrev pub is_of_run : {A : Type 0} → Line A → Bool
+is_of_run (lines.Key text) = true
+is_of_run (lines.Step turns) = true
+is_of_run (lines.Continue turns) = true
+is_of_run _ = false
 
 -- A run that made some turns is made again by STEP with just these, whatever line asked for it: it comes to the same
 -- state, and types the same.
@@ -38,25 +44,6 @@ Alike s t = (t.machine ≡ s.machine) × (t.store.files ≡ s.store.files)
 unfoldable pub Obey : {A : Type 0} → List (Line A × Answer A) → SessionState → SessionState → Type 0
 Obey [] s s' = s' ≡ s
 Obey (done ∷ others) s s'' = (s' : SessionState) × Obeys done.0 s done.1 s' × Obey others s' s''
-
--- Two things no record has: what a store leaves under a name whose SAVE it refuses, and bytes typed earlier, which a run
--- takes that makes no turn.
-pub record IsRepeatable {A : Type 0} (line : Line A) (answer : Answer A) : Type 0 where
-  pub saved : (drive : ℕ) (name : List ℕ) → line ≡ lines.Save drive name → answer ≢ answers.Refused StoreFault
-  pub typed : (typed : List ℕ) (reason : StopReason) (pc : ℕ) → answer ≡ answers.Stop typed reason 0 pc → typed ≡ []
-
-abbrev pub Repeatable : {A : Type 0} → Deed A → Type 0
-Repeatable (Tried line answer) = IsRepeatable line answer
-Repeatable (Ran line answer) = IsRepeatable line answer
-Repeatable _ = ⊤
-
--- The record of deeds is the text of lines that, over a session that begins alike, type the same bytes and end alike.
-abbrev pub RecordsDoAgain : Type 0 → Type 0
-RecordsDoAgain A =
-    (deeds : List (Deed A)) (s s' t : SessionState) → Happen deeds s s' → All Repeatable deeds → Alike s t
-    → (again : List (Line A × Answer A)) × (t' : SessionState) × Obey again t t' × Alike s' t'
-    × (flat_map (λ done. ended done.0) again ≡ flat_map recorded_of deeds)
-    × (flat_map (λ done. typed_in done.1) again ≡ flat_map typed_by deeds)
 
 -- a line that a script can have: its numbers and names are of the grammar, and its text has at most 4,096 bytes
 abbrev pub IsOfScript : {A : Type 0} → Line A → Type 0

@@ -1,3 +1,3 @@
--- What a record is worth: laws of the lines that a dialogue has kept.
-pub mod Deeds
+-- What a record is worth: what runs and lines do again, and the law of a console's record.
 pub mod Again
+pub mod Dialogue

@@ -1,5 +1,6 @@
 //! Laws of the record of a dialogue.
-ghost use Rattle.p11_records.specs.Again.{RecordsAreScripts, RecordsDoAgain, RunsAreMadeAgain, TwoStepsAreOne};
+ghost use Rattle.p11_records.specs.Again.{RecordsAreScripts, RunsAreMadeAgain, TwoStepsAreOne};
+ghost use Rattle.p11_records.specs.Dialogue.{DialoguesDoAgain};
 
 use std::alloc::Allocator;
 
@@ -13,13 +14,11 @@ pub fn two_steps_are_one()
     ensures { TwoStepsAreOne }
 {}
 
-/// The record of deeds is the text of lines that do again what was done: over a session that begins alike they type the
-/// same bytes and end alike. Where a store refused a `save`, or a run that made no turn took bytes, it isn't said.
-pub fn a_record_does_it_again<A: Allocator>()
-    ensures { RecordsDoAgain A }
-{
-    a_run_is_made_again_by_its_turns::<A>();
-}
+/// The record of a dialogue is a script that does it again: over the machine and the files with which the dialogue began, it
+/// types the same bytes and comes to the same machine and files, whatever came to the console.
+pub fn a_dialogue_is_its_record<A: Allocator>()
+    ensures { DialoguesDoAgain A }
+{}
 
 /// A record is a script. What a session does with it are its lines, in order, each with the answer that it gets; reading
 /// one may find no memory.

@@ -4,6 +4,6 @@
 mod laws;
 
 pub use laws::{
-    a_record_does_it_again, a_record_is_a_script, a_run_is_made_again_by_its_turns,
+    a_dialogue_is_its_record, a_record_is_a_script, a_run_is_made_again_by_its_turns,
     two_steps_are_one,
 };
