@@ -88,17 +88,28 @@ def play(work, script, size, told):
     return json.dumps({**record, "errors": errors} if errors else record) + "\n"
 
 
+def play_share(work, scripts, size):
+    """Plays scripts. Each second and at the end: how many, their records, what became of them, and whether it's the end."""
+    count, records, told, began = 0, [], Told(), time.monotonic()
+    for script in scripts:
+        count += 1
+        records.append(play(work, script, size, told))
+        is_last = script is scripts[-1]
+        if is_last or time.monotonic() - began > 1:
+            yield count, "".join(records), told, is_last
+            count, records, told, began = 0, [], Told(), time.monotonic()
+
+
 def work_on(work, size, pipe, others):
-    """A worker: plays the scripts that it is given; tells their records, and what became of them."""
+    """A worker: plays the shares of scripts that it is given, and tells what comes of them."""
     signal.signal(signal.SIGINT, signal.SIG_IGN)
     signal.signal(signal.SIGTERM, signal.SIG_DFL)
     for other in others:
         other.close()
     try:
         while True:
-            scripts, told = pipe.recv(), Told()
-            records = "".join([play(work, script, size, told) for script in scripts])
-            pipe.send((len(scripts), records, told))
+            for part in play_share(work, pipe.recv(), size):
+                pipe.send(part)
     except (EOFError, BrokenPipeError):
         # what has started this is gone
         pass
@@ -177,13 +188,13 @@ def play_all(work, scripts, jobs, rest):
     with open(os.path.join(work.results, RECORDS), "a") as file:
         while done < len(scripts):
             for pipe in multiprocessing.connection.wait(list(workers)):
-                played, records, of_these = answer(workers[pipe], pipe)
+                played, records, of_these, is_last = answer(workers[pipe], pipe)
                 file.write(records)
                 file.flush()
                 done += played
                 told.join(of_these)
                 progress.show(done, len(told.failed))
-                following = next(shares, None)
+                following = next(shares, None) if is_last else None
                 if following:
                     pipe.send(following)
     return told

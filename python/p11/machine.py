@@ -37,6 +37,9 @@ class Stop(NamedTuple):
     turns: int
     pc: int
 
+    def __repr__(self) -> str:
+        return f"Stop({self.reason!r}, turns={self.turns}, pc=0o{self.pc:06o})"
+
 
 class Registers(NamedTuple):
     """The registers: R0 to R5, the stack pointers of kernel and user mode, PC, the status word, SR0 and SR2 of memory management;

@@ -21,7 +21,9 @@ files() { (cd "$from" && find bin include lib libexec share -type f | LC_ALL=C s
 remove() {
     files | while read -r file; do rm -f "$prefix/$file"; done
     for folder in share/doc/p11 libexec/p11; do
-        [ ! -d "$prefix/$folder" ] || find "$prefix/$folder" -depth -type d -empty -delete
+        [ -d "$prefix/$folder" ] || continue
+        find "$prefix/$folder" -depth -path '*/__pycache__/*' -delete
+        find "$prefix/$folder" -depth -type d -empty -delete
     done
 }
 
