@@ -13,7 +13,7 @@ import fs  # noqa: E402
 PROMPT = "$ "
 HELLO = "A small system\r\n"
 NO_FILE = "there is no such file"
-NO_ROOM = "memory has no room for it"
+NO_ROOM = "memory has no room for it; ps shows who has it"
 TOO_LONG = "it is too long: a file has up to 65535 bytes, a command 99"
 # the machine of most tests, and how many pages of it are free beside the shell and df
 LARGE, PAGES = ("--memory", "124"), 26
