@@ -6,7 +6,7 @@ import re
 import subprocess
 import sys
 
-from system_model import Differs, P11, fs
+from system_model import Differs, P11, expression, fs, primes
 
 # what is typed to ed, and what it types behind the echo; none of these lines is one of the shell's
 ED = [
@@ -127,16 +127,6 @@ def numbers(program, folder):
     return "one that is compiled now shows numbers"
 
 
-def expression(pattern):
-    """A pattern of grep as one of Python's."""
-    found, rest = "^" * pattern.startswith("^"), pattern.removeprefix("^")
-    while rest and rest != "$":
-        many = rest[1:2] == "*"
-        found += ("." if rest[0] == "." else re.escape(rest[0])) + "*" * many
-        rest = rest[1 + many:]
-    return re.compile(found + "$" * bool(rest))
-
-
 def patterns(chance, lines):
     """Random patterns, of which most are somewhere in the lines."""
     words = [word for line in lines for word in re.split(r"[ <>|&]+", line) if word]
@@ -160,12 +150,6 @@ def grep(program, folder, pack):
         found += len(wanted)
     machine.end()
     return f"grep finds {found} lines"
-
-
-def primes(limit):
-    """What primes.mac writes."""
-    found = [f"{one:6}" for one in range(2, limit + 1) if all(one % low for low in range(2, int(one ** 0.5) + 1))]
-    return "".join("".join(found[at:at + 10]) + "\n" for at in range(0, len(found), 10)).encode()
 
 
 def memory(machine, first, end):
