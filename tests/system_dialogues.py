@@ -6,7 +6,8 @@ import re
 import subprocess
 import sys
 
-from system_model import Differs, P11, fs
+from system_editor import random_commands
+from system_model import Differs, P11, expression, fs, primes
 
 # what is typed to ed, and what it types behind the echo; none of these lines is one of the shell's
 ED = [
@@ -33,6 +34,7 @@ WRONG_LINES = [("mov r1", "a register or a comma is missing"), ("move r1,r2", "t
                (".=10", ". = is for .bss alone")]
 
 LONGEST = "a-name_of.nineteen0"
+EDITS = 150
 
 PAGE, WORD = "[bad is ended: an address that isn't its own, PC ", "[bad is ended: a reserved instruction, PC "
 # of each way of bad.mac how what is typed begins
@@ -75,7 +77,7 @@ def files_after(pack):
 
 
 def editor(program, folder, pack):
-    """The dialogue with ed; its files are on the pack."""
+    """The dialogue with ed, and random commands beside a model; its files are on the pack."""
     machine = P11(program, pack, ())
     for line, wanted in ED:
         machine.type(line + "\r")
@@ -83,6 +85,7 @@ def editor(program, folder, pack):
         if found != f"{line}\r\n" + (wanted + "\n" if wanted else "").replace("\n", "\r\n"):
             raise Differs(f"ed: {line!r} is answered {found!r}")
     machine.expect("q", "")
+    random_commands(machine, EDITS)
     machine.expect(f"cp poem {LONGEST}", "")
     machine.expect(f"cp poem {LONGEST}x", f"{LONGEST}x: that is no name for a file: 1 to 19 letters, digits and . _ -\r\n")
     machine.expect("ls | cat", "".join(f" {len(data):5} {name}\r\n" for name, data in files_after(pack)))
@@ -90,7 +93,7 @@ def editor(program, folder, pack):
     machine.end()
     if {name: files.get(name) for name in ED_FILES} != ED_FILES:
         raise Differs("ed: other files than were written")
-    return f"{len(ED)} lines to the editor"
+    return f"{len(ED)} lines and {EDITS} random commands to the editor"
 
 
 def assembler(program, folder, pack):
@@ -127,16 +130,6 @@ def numbers(program, folder):
     return "one that is compiled now shows numbers"
 
 
-def expression(pattern):
-    """A pattern of grep as one of Python's."""
-    found, rest = "^" * pattern.startswith("^"), pattern.removeprefix("^")
-    while rest and rest != "$":
-        many = rest[1:2] == "*"
-        found += ("." if rest[0] == "." else re.escape(rest[0])) + "*" * many
-        rest = rest[1 + many:]
-    return re.compile(found + "$" * bool(rest))
-
-
 def patterns(chance, lines):
     """Random patterns, of which most are somewhere in the lines."""
     words = [word for line in lines for word in re.split(r"[ <>|&]+", line) if word]
@@ -160,12 +153,6 @@ def grep(program, folder, pack):
         found += len(wanted)
     machine.end()
     return f"grep finds {found} lines"
-
-
-def primes(limit):
-    """What primes.mac writes."""
-    found = [f"{one:6}" for one in range(2, limit + 1) if all(one % low for low in range(2, int(one ** 0.5) + 1))]
-    return "".join("".join(found[at:at + 10]) + "\n" for at in range(0, len(found), 10)).encode()
 
 
 def memory(machine, first, end):

@@ -13,7 +13,7 @@ import fs  # noqa: E402
 PROMPT = "$ "
 HELLO = "A small system\r\n"
 NO_FILE = "there is no such file"
-NO_ROOM = "memory has no room for it"
+NO_ROOM = "memory has no room for it; ps shows who has it"
 TOO_LONG = "it is too long: a file has up to 65535 bytes, a command 99"
 # the machine of most tests, and how many pages of it are free beside the shell and df
 LARGE, PAGES = ("--memory", "124"), 26
@@ -82,6 +82,22 @@ class Simh(Typist, machines.Simh):
         self.answer("Goodbye\r\n")
         os.close(self.keys)
         self.console.wait()
+
+
+def expression(pattern):
+    """A pattern of grep as one of Python's."""
+    found, rest = "^" * pattern.startswith("^"), pattern.removeprefix("^")
+    while rest and rest != "$":
+        many = rest[1:2] == "*"
+        found += ("." if rest[0] == "." else re.escape(rest[0])) + "*" * many
+        rest = rest[1 + many:]
+    return re.compile(found + "$" * bool(rest))
+
+
+def primes(limit):
+    """What `primes` writes."""
+    found = [f"{one:6}" for one in range(2, limit + 1) if all(one % low for low in range(2, int(one ** 0.5) + 1))]
+    return "".join("".join(found[at:at + 10]) + "\n" for at in range(0, len(found), 10)).encode()
 
 
 class Model:
@@ -196,6 +212,17 @@ class Model:
                 self.write(f"{2 * at:06o} {' '.join(words[at:at + 8])}\n".encode())
             self.write(b"%06o\n" % len(one))
 
+    def grep(self, words, data):
+        pattern = expression(words[0].decode())
+        for name, one in self.inputs(words[1:], data):
+            # a line in C ends at a 0, and has at most 255 bytes
+            lines = [line[:255].split(b"\0")[0] for line in one.removesuffix(b"\n").split(b"\n") if one]
+            found = [line for line in lines if pattern.search(line.decode("latin-1"))]
+            self.write(b"".join((name + b": " if len(words) > 2 else b"") + line + b"\n" for line in found))
+
+    def primes(self, words, _data):
+        self.write(primes(int(words[0])))
+
     def cp(self, names, _data):
         old, new = names
         if old not in self.files:
@@ -256,7 +283,7 @@ class Lines:
 
     def line(self):
         one = self.chance.choice
-        kind = self.chance.randrange(14)
+        kind = self.chance.randrange(16)
         if kind < 3:
             return f"{self.echo()} {self.into()}"
         if kind < 5:
@@ -275,6 +302,10 @@ class Lines:
             return f"sort <{self.file()} {self.into()}"
         if kind == 11:
             return f"cat {self.file()} | {one(['sort', 'wc', 'od', 'cat'])} {self.into()}"
+        if kind == 14:
+            return f"grep {one(['e', 'a.*b', '^[^a-e]', '[st]*', '9$', 'x*y.', '.'])} {self.any_file()} {self.file()} {self.into()}"
+        if kind == 15:
+            return f"primes {self.chance.randrange(500)} | grep {one(['7', '1.*3', '[0-9]'])} {self.into()}"
         if kind == 12:
             return f"cat {self.file()} | {one(['wc', 'sort | wc', 'od | wc'])}"
         return f"od {self.small()}"

@@ -1,8 +1,8 @@
 #!/usr/bin/env python3
 """examples/system/fs.py COMMAND PACK ..: the file system of the small system, from outside.
 
-  make PACK [FILE ..]     makes PACK: assembles the kernel and the programs beside this script, and puts the programs,
-                          their help, what `as` needs and the FILEs on it
+  make PACK [FILE ..]     makes PACK: assembles the kernel and the programs beside this script, and puts the programs, those
+                          in C (c/*.program, as ../cc11 --system made them), their help, what `as` needs and the FILEs on it
   check PACK              says what is wrong with the pack, a line each, or how many files and free blocks it has
   list PACK               the files with their lengths
   get PACK NAME           writes a file to standard output
