@@ -2,7 +2,7 @@
 'use strict';
 
 const $ = (selector) => document.querySelector(selector);
-const ENGINE = ['engine/calls.js', 'engine/session.js', 'engine/worker.js'];
+const ENGINE = ['calls', 'session', 'pages', 'worker'].map((name) => `engine/${name}.js`);
 
 class App {
   constructor() {
@@ -17,6 +17,12 @@ class App {
   say(text) {
     this.screen.write(Uint8Array.from(text.replace(/\n/g, '\r\n'), (c) => c.charCodeAt(0)));
     this.view.speak(text);
+  }
+
+  // Nothing is done with a machine that isn't ready: keys wait, and panel and drives take nothing.
+  hold(isHeld) {
+    this.console.hold(isHeld);
+    for (const part of ['#panel', '#drives']) $(part).inert = isHeld;
   }
 
   note(text) { $('#note').textContent = text; }
@@ -91,7 +97,7 @@ class App {
     link.on('stop', ({ text }) => this.console.stopped(text));
     link.on('line', ({ line, answer, tape }) => this.console.answered(line, answer, tape));
     link.on('lamps', (lamps) => this.lamps(lamps));
-    link.on('journal', (gained) => this.store.add(gained));
+    link.on('journal', (gained) => this.keep(gained));
     link.on('lost', ({ why }) => this.sessions.lost(why));
   }
 
@@ -114,6 +120,14 @@ class App {
     }
   }
 
+  // Keeps what was done, and beside the machine's memory what the screen shows.
+  async keep(gained) {
+    const { link } = this, { pages } = gained;
+    if (pages) pages.head.screen = this.screen.picture();
+    const isKept = await this.store.add(gained) === true;
+    if (pages) link.ask('kept', { machine: pages.head.machine, isKept });
+  }
+
   typed(bytes) {
     this.screen.write(bytes);
     this.console.typed(bytes);
@@ -130,6 +144,7 @@ class App {
 
   lamps(lamps) {
     this.panel.light(lamps);
+    this.sessions.progress(lamps.regs.turns);
     const million = lamps.rate / 1e6, rate = lamps.isIdle ? 'waits' : `${million.toFixed(million < 1 ? 2 : 1)} million turns a second`;
     $('#speed').textContent = lamps.isRunning ? rate + (lamps.keys > 0 ? `, ${lamps.keys} keys wait` : '') : '';
   }
