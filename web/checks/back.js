@@ -42,7 +42,7 @@ async function back({ page, url, say }) {
     }
     await page.replace();
     await page.navigate(url);
-    await page.until("document.readyState !== 'loading' && document.querySelector('#keys') !== null");
+    await page.until("globalThis.app?.console !== undefined && document.querySelector('#keys').value === ' '");
     await page.click('#screen');
     await page.type('examine 1000\r');
     await isBack(page);

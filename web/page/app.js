@@ -4,6 +4,9 @@
 const $ = (selector) => document.querySelector(selector);
 const ENGINE = ['calls', 'session', 'pages', 'worker'].map((name) => `engine/${name}.js`);
 
+// The page as it came, where it is one file; it is copied with a program in it.
+const PAGE = globalThis.P11_INSIDE ? `<!doctype html>\n${document.documentElement.outerHTML}\n` : null;
+
 class App {
   constructor() {
     this.screen = new Screen();
@@ -57,7 +60,6 @@ class App {
   focus() { $('#keys').focus({ preventScroll: true }); }
 
   async open() {
-    listen(this);
     this.controls();
     this.paint();
     const [module, boots, store, ...sources] = await Promise.all([
@@ -71,6 +73,7 @@ class App {
     store.onlost = () => this.sessions.leave('(The session goes on in another tab; here is a new machine.)');
     this.kept = new KeptList($('#kept'), this);
     this.connect();
+    listen(this);
     this.showBoots();
     await this.begin();
     this.focus();
@@ -105,9 +108,10 @@ class App {
   async begin() {
     const asked = new URLSearchParams(location.search);
     const [boot, pack, script] = ['boot', 'pack', 'script'].map((name) => asked.get(name));
-    const sessions = await this.store.list(), last = boot ?? pack ?? script ? undefined : sessions.find(({ turns, count }) => turns > 0 || count !== 0);
+    const sessions = await this.store.list(), lesson = lessonIn(), last = lesson ?? boot ?? pack ?? script ? undefined : sessions.find(({ turns, count }) => turns > 0 || count !== 0);
     if (last && await this.sessions.reopen(last.id)) return;
     if (sessions.length > 0) this.sessions.kwords = sessions[0].kwords;
+    if (lesson) { await this.sessions.openPacked(document.title, lesson); return; }
     this.say('p11: a PDP-11/40. Type help, drop a file,\nor boot something by a button above.\n');
     await this.sessions.fresh();
     if (boot) await this.sessions.boot(boot);
@@ -178,6 +182,9 @@ class App {
     $('#kind').onchange = ({ target }) => { this.screen.isVt52 = target.value === '52'; };
     $('#load').onclick = () => this.pick();
     $('#record').onclick = async () => downloadRecord('session.p11', await this.link.ask('record'));
+    $('#packed').onclick = async () => download('session.p11z', await this.sessions.packed());
+    $('#page').onclick = async () => download('lesson.html', new TextEncoder().encode(pageWith(PAGE, await this.sessions.packed())));
+    $('#page').hidden = PAGE === null;
     $('#forget').onclick = () => this.kept.forgetAll();
     $('#theme').onclick = () => setFace(nextFace());
     setFace(keptFace());

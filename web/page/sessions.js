@@ -1,6 +1,7 @@
 // Machines and their sessions: a new one, one of those that ship with the page, and one that was kept, which goes on from the
 // kept pages of its memory, or, with another module, by playing its record again.
 //   const sessions = new Sessions(app); await sessions.fresh(28); await sessions.boot('monitor'); await sessions.reopen(7);
+//   await sessions.openPacked('mine.p11z', bytes); await sessions.packed()
 'use strict';
 
 class Sessions {
@@ -35,27 +36,58 @@ class Sessions {
     return Object.assign(isLast, { isRevived });
   }
 
-  // One of those in boots.json, on a machine of its own.
+  // One of those in boots.json.
   async boot(name) {
     const { app } = this, entry = app.boots.find((it) => it.name === name);
     if (!entry) {
       app.note(`Nothing of the name "${name}" ships with the page; there are ${app.boots.map((it) => it.name).join(', ')}.`);
       return;
     }
-    const isLast = await this.open(28);
-    if (!isLast) return;
-    this.begin({ kwords: this.kwords, title: entry.title });
-    app.say(`p11> do ${entry.script}\n`);
-    const script = await Shelf.text(entry.script), files = await Promise.all(entry.files.map((file) => Shelf.bytes(file)));
-    for (const [at, file] of entry.files.entries()) if (isLast()) await this.put(file, files[at]);
-    app.hold(false);
-    // the terminal makes the turns of a last line `continue`
-    if (isLast()) await app.console.play(entry.talk ? script.replace(/\ncontinue \d+\n$/, '\n') : script, true);
-    if (!isLast()) return;
+    const load = async () => {
+      const script = await Shelf.text(entry.script), contents = await Promise.all(entry.files.map((file) => Shelf.bytes(file)));
+      // the terminal makes the turns of a last line `continue`
+      return { script: entry.talk ? script.replace(/\ncontinue \d+\n$/, '\n') : script, files: entry.files.map((file, at) => ({ name: file, bytes: contents[at] })) };
+    };
+    if (!await this.start({ kwords: 28, title: entry.title, shown: entry.script, load, isBrief: true })) return;
     app.note(`${entry.about} Type first: ${entry.first}`);
     await app.drives.show();
     if (entry.talk) await app.console.talk(); else app.console.open();
     app.focus();
+  }
+
+  // A session that is packed in one file.
+  async openPacked(name, bytes) {
+    const { app } = this;
+    try {
+      const packed = await unpacked(bytes);
+      if (!await this.start({ kwords: packed.kwords, title: name, shown: name, load: () => packed })) return;
+    } catch (error) {
+      app.note(`${name} is no session: ${error.message}.`);
+      return;
+    }
+    app.console.open();
+    await app.drives.show();
+  }
+
+  // A session of its own, on a new machine: files, and a script that is played. Whether no other one was asked for meanwhile.
+  async start({ kwords, title, shown, load, isBrief = false }) {
+    const { app } = this, isLast = await this.open(kwords);
+    if (!isLast) return false;
+    this.begin({ kwords, title });
+    app.say(`p11> do ${shown}\n`);
+    const { script, files } = await load();
+    for (const { name, bytes } of files) if (isLast()) await this.put(name, bytes);
+    if (!isLast()) return false;
+    app.hold(false);
+    await app.console.play(script, isBrief);
+    return isLast();
+  }
+
+  // The session that is open, in one file. Where the browser keeps nothing, its files are as the machine has them now.
+  async packed() {
+    const { app } = this, record = await app.link.ask('record'), { session } = app.store;
+    const there = async () => Promise.all((await app.link.ask('files')).map(async ([name]) => ({ name, bytes: await app.link.ask('file', { name }) })));
+    return packedOf({ record, kwords: this.kwords, files: session ? await app.store.files(session.id) : await there() });
   }
 
   // Keeps what is done from now on as a session of its own.
@@ -162,6 +194,7 @@ class Sessions {
     const { kind, doubt, refused } = kindOf(file.name, bytes);
     if (refused) { app.note(`${refused}.`); return; }
     if (doubt && !await app.ask(`${doubt}. Is it a pack?`, 'Mount it')) { app.note(`${file.name} is left out.`); return; }
+    if (kind === 'packed') { await this.openPacked(file.name, bytes); return; }
     await (kind === 'script' ? this.play(file.name, bytes) : this.use(file.name, bytes, kind, drive));
   }
 
