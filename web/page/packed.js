@@ -1,12 +1,13 @@
 // A session as one file, NAME.p11z: a ZIP archive of its record, session.p11, which begins with a remark on the memory, and of its packs
 // and tapes under the names that the record has for them. `./p11 NAME.p11z` plays it too.
-//   await packedOf({ record, kwords, files }); await unpacked(bytes)   { script, kwords, files }; throws where it is none
+//   await packedOf({ record, kwords, talks, files }); await unpacked(bytes)   { script, kwords, talks, files }; throws where it is none
+// Where it talks, the machine's terminal comes behind the script: at a last line `continue`, and at a last remark `# talk`.
 'use strict';
 
-const RECORD = 'session.p11';
+const RECORD = 'session.p11', TALKS = /^(?:continue \d+|# talk)\s*$(?![^])/m;
 
-function packedOf({ record, kwords, files }) {
-  const text = `# memory ${kwords}\n# ${globalThis.P11_MADE}\n${record}`;
+function packedOf({ record, kwords, talks, files }) {
+  const text = `# memory ${kwords}\n# ${globalThis.P11_MADE}\n${record}${talks ? '# talk\n' : ''}`;
   return zipOf([{ name: RECORD, bytes: Uint8Array.from(text, (c) => c.charCodeAt(0)) }, ...files.filter(({ name }) => isInside(name))]);
 }
 
@@ -19,7 +20,7 @@ async function unpacked(bytes) {
   if (!record) throw new Error(`it has no ${RECORD}`);
   const script = new TextDecoder('latin1').decode(record.bytes), kwords = +(/^# memory (\d+)$/m.exec(script)?.[1] ?? 28);
   if (kwords < 4 || kwords > 124 || kwords % 4 !== 0) throw new Error(`there is no machine of ${kwords} thousand words`);
-  return { script, kwords, files: files.filter((it) => it !== record) };
+  return { script: script.replace(TALKS, ''), kwords, talks: TALKS.test(script), files: files.filter((it) => it !== record) };
 }
 
 // The program that was put into this page (web/with, or the button of another page), which it boots; null where none was.

@@ -61,12 +61,11 @@ class Sessions {
     try {
       const packed = await unpacked(bytes);
       if (!await this.start({ kwords: packed.kwords, title: name, shown: name, load: () => packed })) return;
+      await app.drives.show();
+      if (packed.talks) await app.console.talk(); else app.console.open();
     } catch (error) {
       app.note(`${name} is no session: ${error.message}.`);
-      return;
     }
-    app.console.open();
-    await app.drives.show();
   }
 
   // A session of its own, on a new machine: files, and a script that is played. Whether no other one was asked for meanwhile.
@@ -87,7 +86,7 @@ class Sessions {
   async packed() {
     const { app } = this, record = await app.link.ask('record'), { session } = app.store;
     const there = async () => Promise.all((await app.link.ask('files')).map(async ([name]) => ({ name, bytes: await app.link.ask('file', { name }) })));
-    return packedOf({ record, kwords: this.kwords, files: session ? await app.store.files(session.id) : await there() });
+    return packedOf({ record, kwords: this.kwords, talks: app.console.isRunning, files: session ? await app.store.files(session.id) : await there() });
   }
 
   // Keeps what is done from now on as a session of its own.
