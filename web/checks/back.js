@@ -7,7 +7,7 @@ const { sleep } = require('./page.js');
 const { play, stateOf, STATE } = require('./compare.js');
 const { settle, kept } = require('./evening.js');
 
-const TURNS = 50000000, MOST_MS = 2000, KILLS = +(process.env.KILLS ?? 4), MOST_WAIT = 2500;
+const TURNS = 50000000, MOST_MS = 2000, KILLS = 4, MOST_WAIT = 2500;
 const COUNTS = 'deposit 1000 5267 1000 5200 10021 20127 20000 103402 12701 4000 766\rset 1 4000\rstart 1000\r';
 const record = (page) => page.eval("app.link.ask('record')");
 const turnsOf = (page) => page.eval("app.link.ask('regs').then((it) => it.turns)");
@@ -77,11 +77,11 @@ async function stopped({ page, url, say }) {
 
 // The browser is killed at random moments of a run in which keys are pressed and a pack is written to: what was kept is there, and the
 // machine is that to which ./p11 comes by the record.
-async function kills({ command, url, native, say }) {
+async function kills({ command, url, native, say, count = KILLS }) {
   const home = fs.mkdtempSync(path.join(os.tmpdir(), 'p11-killed-'));
   let told = 0, revived = 0, page = null;
   try {
-    for (let n = 0; n <= KILLS; n++) {
+    for (let n = 0; n <= count; n++) {
       page = await open(url, { downloads: native.folder, command, home });
       if (n === 0) await attempt(page, 'deposit 1000 777');
       else {
@@ -107,7 +107,7 @@ async function kills({ command, url, native, say }) {
     await page?.kill();
     fs.rmSync(home, { recursive: true, force: true, maxRetries: 5, retryDelay: 200 });
   }
-  say(`the browser was killed ${KILLS} times: nothing that was kept is lost, ${revived} times the session was back by its pages, and ./p11 comes to the same`);
+  say(`the browser was killed ${count} times: nothing that was kept is lost, ${revived} times the session was back by its pages, and ./p11 comes to the same`);
 }
 
 module.exports = { back, stopped, kills };
