@@ -14,11 +14,11 @@ const turnsOf = (page) => page.eval("app.link.ask('regs').then((it) => it.turns)
 const attempt = (page, line) => page.eval(`app.console.attempt(${JSON.stringify(line)})`);
 const isBack = (page) => page.until('app.back && !app.console.isHeld && app.link.asked.size === 0');
 
-// Until the pages are kept too, as the machine is now.
+// Until the pages are kept too, as the machine is now, between two runs.
 async function keptWhole(page) {
   await kept(page);
-  await page.until(`app.store.kept(app.store.session.id).then(async ({ pages }) => pages !== null
-    && pages.head.state.session.turns === (await app.link.ask('regs')).turns)`);
+  await page.until(`Promise.all([app.store.kept(app.store.session.id), app.link.ask('record')]).then(([{ lines, pages }, record]) =>
+    pages !== null && pages.head.state.lines === lines.length && lines.map((line) => line + '\\n').join('') === record)`);
 }
 
 // Has the session open next time as if it were another module's.
@@ -61,8 +61,8 @@ async function back({ page, url, say }) {
 // The record of a long run is played again with how far it is; a button ends that, and the session stays kept.
 async function stopped({ page, url, say }) {
   const first = await page.eval('app.store.session.id');
+  await keptWhole(page);
   await page.eval('app.store.change((table) => { app.store.session.steps = 2000000000; table("sessions").put(app.store.session); })');
-  await keptWhole(page).catch(() => {});
   await ofAnother(page);
   await page.replace();
   await page.navigate(url);

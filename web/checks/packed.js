@@ -9,6 +9,9 @@ const { downloaded, settle } = require('./evening.js');
 const TOP = path.join(__dirname, '../..');
 const note = (page, text) => page.until(`document.querySelector('#note').textContent.includes(${JSON.stringify(text)})`);
 const hellos = (page, count) => page.until(`app.view.text().split('HELLO FROM THE PACK').length - 1 === ${count} && !app.console.isRunning`);
+// Until a session that was dropped is there, and its script is done.
+const isOpen = (page, name) => page.until(`app.store.session?.title === '${name}' && !app.console.isHeld && !app.console.isRunning
+  && app.link.asked.size === 0 && app.view.text().trimEnd().endsWith('p11>')`);
 const p11 = (file) => spawnSync(path.join(TOP, 'p11'), [file], { maxBuffer: 1 << 28, encoding: 'latin1' });
 
 async function packed({ page, url, native: { folder }, say }) {
@@ -28,16 +31,15 @@ async function packed({ page, url, native: { folder }, say }) {
   assert(stdout.endsWith(state), './p11 comes to another state');
   await page.eval('app.sessions.fresh(28)');
   await page.drop(file('mine.p11z'));
-  await page.until("app.view.text().includes('do mine.p11z') && app.store.session?.title === 'mine.p11z' && !app.console.isRunning && !app.console.isHeld");
-  await page.until("/EXAM 005000 001234/.test(app.view.text())");
+  await isOpen(page, 'mine.p11z');
+  assert.equal(await stateOf(page), state, 'the page comes to another state');
   say('a session that the page packs is played by ./p11 to the same bytes and state, and by the page');
 
   packUp('--memory', '124', 'examples/boot.p11', file('made.p11z'));
   assert.equal(p11(file('made.p11z')).stdout, fs.readFileSync(path.join(TOP, 'examples/boot.out'), 'latin1'));
   await page.drop(file('made.p11z'));
-  await page.until("app.sessions.kwords === 124 && app.view.text().includes('do made.p11z')");
-  await hellos(page, await page.eval("app.view.text().split('HELLO FROM THE PACK').length - 1"));
-  await page.until("app.link.ask('line', { line: 'examine 757776' }).then(({ answer }) => answer === 'EXAM 757776 000000\\n')");
+  await isOpen(page, 'made.p11z');
+  assert.equal(await page.eval("app.link.ask('line', { line: 'examine 757776' }).then(({ answer }) => answer)"), 'EXAM 757776 000000\n');
   say('what examples/pack-up makes is played by ./p11 and by the page, with the memory that it names');
 
   const bad = async (name, files, said, told) => {

@@ -70,6 +70,7 @@ class App {
       $('#refused').textContent = `The browser keeps nothing more of this session (${why}); its record can be downloaded.`;
     };
     store.onrefused(store.refused);
+    if (store.loss !== null) this.note(`The browser has lost the sessions that were kept: ${store.loss || 'it says no more'}.`);
     store.onlost = () => this.sessions.leave('(The session goes on in another tab; here is a new machine.)');
     this.kept = new KeptList($('#kept'), this);
     this.connect();

@@ -12,10 +12,11 @@ const wait = (request) => new Promise((done, fail) => {
   request.onerror = () => fail(request.error);
 });
 
-// The database; an earlier page's has no pages. Another tab may have that one open.
-function opened() {
+// The database; an earlier page's has no pages. Another tab may have that one open. Chromium tells where a damaged one was dropped.
+function opened(onloss) {
   const request = indexedDB.open('p11', 2);
-  request.onupgradeneeded = ({ oldVersion }) => {
+  request.onupgradeneeded = ({ oldVersion, dataLoss, dataLossMessage }) => {
+    if (dataLoss === 'total') onloss(dataLossMessage);
     const { result } = request;
     if (oldVersion < 1) {
       result.createObjectStore('sessions', { keyPath: 'id', autoIncrement: true });
@@ -34,7 +35,7 @@ class Store {
   static async open() {
     const store = new Store();
     try {
-      store.db = await opened();
+      store.db = await opened((why) => { store.loss = why; });
       store.db.onversionchange = () => store.db.close();
     } catch (error) {
       store.refuse(error);
@@ -47,6 +48,7 @@ class Store {
     this.session = null;      // { id, name, begun, used, kwords, steps, turns, count, bytes, isTalking }; count is that of lines
     this.claim = null;
     this.refused = '';
+    this.loss = null;         // why the browser has lost what was kept, if it has
     this.onrefused = () => {};
     this.onlost = () => {};
     this.last = Promise.resolve();
