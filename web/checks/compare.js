@@ -47,4 +47,4 @@ function agree(record, typed, state, native) {
   assert(answers.endsWith(state), 'registers, devices or memory differ');
 }
 
-module.exports = { play, typedIn, withoutRemark, listen, heard, stateOf, agree };
+module.exports = { STATE, play, typedIn, withoutRemark, listen, heard, stateOf, agree };

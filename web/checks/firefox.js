@@ -10,13 +10,15 @@ const CODES = { Enter: '\ue007', Backspace: '\ue003', Tab: '\ue004', End: '\ue01
 const SHIFT = '\ue008', CONTROL = '\ue009';
 const EVENTS = { move: 'pointerMove', down: 'pointerDown', up: 'pointerUp' };
 
-// Files are saved unasked, and a page may read the clipboard without a question.
+// Files are saved unasked, a page may read the clipboard without a question, and behind a kill no tab comes back.
 const preferences = (downloads) => Object.entries({
   'browser.download.folderList': 2,
   'browser.download.dir': path.resolve(downloads),
   'browser.download.alwaysOpenPanel': false,
   'browser.helperApps.neverAsk.saveToDisk': 'application/octet-stream',
   'dom.events.testing.asyncClipboard': true,
+  'browser.sessionstore.resume_from_crash': false,
+  'toolkit.startup.max_resumed_crashes': -1,
 }).map(([name, value]) => `user_pref(${JSON.stringify(name)}, ${JSON.stringify(value)});\n`).join('');
 
 class FirefoxPage extends Page {
@@ -135,6 +137,12 @@ class FirefoxPage extends Page {
     return told;
   }
 
+  // The processes of the browser are a group of their own.
+  async kill() {
+    process.kill(-this.child.pid, 'SIGKILL');
+    if (this.child.signalCode === null) await new Promise((done) => { this.child.once('exit', done); });
+  }
+
   async close() {
     await this.send('browser.close').catch(() => {});
     if (this.child.exitCode === null) await new Promise((done) => { this.child.once('exit', done); });
@@ -155,11 +163,10 @@ function addressOf(child) {
   });
 }
 
-async function openFirefox(command, { downloads }) {
-  const home = fs.mkdtempSync(path.join(os.tmpdir(), 'p11-browser-'));
+async function openFirefox(command, { downloads, home = fs.mkdtempSync(path.join(os.tmpdir(), 'p11-browser-')) }) {
   fs.writeFileSync(path.join(home, 'user.js'), preferences(downloads));
   const words = ['--headless', '--no-remote', '--profile', home, '--remote-debugging-port', '0', 'about:blank'];
-  const child = spawn(command, words, { stdio: ['ignore', 'ignore', 'pipe'] });
+  const child = spawn(command, words, { stdio: ['ignore', 'ignore', 'pipe'], detached: true });
   const Socket = globalThis.WebSocket ?? require('ws'), socket = new Socket(`${await addressOf(child)}/session`);
   const page = new FirefoxPage(child, home, socket);
   await new Promise((done, fail) => Object.assign(socket, { onopen: done, onerror: fail }));

@@ -25,7 +25,7 @@ const CASES = [
   ['page.dsk', text('<html>'.padEnd(512)), /is a text, and no script/], ['wide.txt', text('gr\xc3\xbc\xc3\x9fe'), /is a text, and no script/],
   ['node', node, /node is a program for another machine, and no pack/], ['x.tar', behind(Buffer.alloc(257, 'x'), text('ustar\x0000')), /tar archive: unpack it first$/],
   ['x.zip', text('PK\x03\x04\x14\0'), /ZIP archive: unpack it first$/], ['x.wasm', text('\0asm\x01\0\0\0'), /WebAssembly module/],
-  ['nothing', Buffer.alloc(0), /nothing has no bytes$/],
+  ['mine.p11z', text('PK\x03\x04\x14\0'), 'packed'], ['nothing', Buffer.alloc(0), /nothing has no bytes$/],
 ];
 
 for (const [name, bytes, wanted] of CASES) {

@@ -12,7 +12,7 @@
 //   capture()            a picture, as the bytes of a PNG
 //   before(source)       has a script run before those of each page; gives what ends that
 //   named(roles, names)  { nameless, lacking, count }: roles of controls without a name, names that none has, how many there are
-//   close()              ends the browser
+//   close()              ends the browser, and kill() by a signal, with all its processes
 'use strict';
 const fs = require('fs');
 
@@ -33,7 +33,7 @@ class Page {
     await this.goTo(url);
   }
 
-  async until(expression, ms = 120000) {
+  async until(expression, ms = +(process.env.UNTIL ?? 120000)) {
     for (const end = Date.now() + ms; ;) {
       if (await this.eval(expression).catch(() => false)) return;
       if (Date.now() > end) throw new Error(`never came: ${expression}; errors of the page: ${this.errors.join(' | ')}`);

@@ -13,17 +13,20 @@ const { looks, names, keyboard, glass } = require('./looks.js');
 const { tabs, list, full } = require('./tabs.js');
 const { presses } = require('./presses.js');
 const { cases } = require('./cases.js');
+const { back, stopped, kills } = require('./back.js');
+const { cuts } = require('./cuts.js');
+const { packed, lesson } = require('./packed.js');
 const { plays, link, beside, pace, sizes, copies, single } = require('./ways.js');
 
 // All checks in one browser: its name with its version, how many different sessions it played, and how many lines they have.
 async function checked(command, { made, p11, terminal, examples, casesFile }) {
   const folder = fs.mkdtempSync(path.join(os.tmpdir(), 'p11-web-')), began = Date.now();
-  const server = await serve({ '/': path.join(made, 'site'), '/tests/': __dirname, '/data/': path.dirname(casesFile) });
+  const server = await serve({ '/': path.join(made, 'site'), '/examples/': examples, '/tests/': __dirname, '/data/': path.dirname(casesFile) });
   const url = `http://127.0.0.1:${server.address().port}/`;
   const page = await open(url, { downloads: folder, command });
   const native = { p11: path.resolve(p11), terminal: path.resolve(terminal), folder };
   const say = (text) => console.log(`web/check: ${page.product}: ${text}`);
-  const all = { page, url, made, examples: path.resolve(examples), native, say };
+  const all = { page, url, made, command, examples: path.resolve(examples), native, say };
   let test = evening;
   const run = (next, more) => {
     test = next;
@@ -33,8 +36,10 @@ async function checked(command, { made, p11, terminal, examples, casesFile }) {
     await run(plays, await run(evening));
     for (const next of [boots, presses, words, badFiles, keyboard, names, looks, glass, pace, sizes, copies]) await run(next);
     for (const next of [link, beside, tabs, list, full, policy, lacking]) await run(next);
+    for (const next of [packed, back, stopped, kills, cuts]) await run(next);
     const told = await run(cases);
     await run(single);
+    await run(lesson);
     await page.goTo(url);
     await run(trap);
     if (page.errors.length > 0) throw new Error(`errors of the page: ${page.errors.join(' | ')}`);

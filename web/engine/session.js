@@ -7,6 +7,13 @@
 const MOST_TURNS = 100000000, MOST_KEYS = 64;
 const octal = (n, digits = 6) => n.toString(8).padStart(digits, '0');
 
+// So many turns as lines of a record.
+function stepsOf(turns) {
+  const lines = [];
+  for (let left = turns; left > 0; left -= MOST_TURNS) lines.push(`step ${Math.min(left, MOST_TURNS)}`);
+  return lines;
+}
+
 class Session {
   constructor(p11) {
     this.p11 = p11;
@@ -21,17 +28,17 @@ class Session {
 
   // A run of so many turns is `step N` in the record; what was refused isn't in it.
   note(line) {
-    this.record.push(...this.lastSteps(), line);
+    this.noteRun();
+    this.record.push(line);
+  }
+
+  // A run that has ended is a line of its own: one that a HALT ended stops there again.
+  noteRun() {
+    this.record.push(...stepsOf(this.steps));
     this.steps = 0;
   }
 
-  lastSteps() {
-    const lines = [];
-    for (let left = this.steps; left > 0; left -= MOST_TURNS) lines.push(`step ${Math.min(left, MOST_TURNS)}`);
-    return lines;
-  }
-
-  recordText() { return [...this.record, ...this.lastSteps()].map((line) => line + '\n').join(''); }
+  recordText() { return [...this.record, ...stepsOf(this.steps)].map((line) => line + '\n').join(''); }
 
   // What a line shows that changes nothing (`device`, `changed 0`); it isn't in the record.
   peek(line) { return textOf(this.p11.line(line)); }
@@ -98,6 +105,7 @@ class Session {
     const isOver = made.reason === 'halt' || made.reason === 'memory' || run.left === 0 || (isIdle && !run.isFree);
     if (!isOver) return { typed, isIdle, stop: null };
     this.run = null;
+    this.noteRun();
     return { typed, isIdle, stop: `STOP ${made.reason} ${run.made} ${octal(made.pc)}\n` };
   }
 
@@ -105,6 +113,7 @@ class Session {
   halt() {
     const made = this.run.made;
     this.run = null;
+    this.noteRun();
     return `STOP key ${made} ${octal(this.p11.regs().pc)}\n`;
   }
 

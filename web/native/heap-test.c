@@ -1,18 +1,20 @@
 /* heap-test: 200,000 random requests to heap.c against a shadow of what was written. No two blocks overlap, each is
  * aligned to 16 and lies in the memory that was grown, what was written stays, and a growth that is refused changes
- * nothing. Exit status 1: something of that isn't so. web/check builds it with the sanitizers of cc. */
+ * nothing. And 6,000 changes of a page, of which each gives it another sum. Exit status 1: something of that isn't so.
+ * web/check builds it with the sanitizers of cc. */
 #include <stdint.h>
 #include <stdio.h>
 #include <stdlib.h>
 #include <string.h>
 #include <sys/mman.h>
 
-enum { REQUESTS = 200000, BLOCKS = 2000, PAGE = 65536, MOST_PAGES = 120 };   /* 7.5 MiB, so that growth is refused too */
+enum { REQUESTS = 200000, BLOCKS = 2000, CHANGES = 1000, PAGE = 65536, WORDS = PAGE / 8, MOST_PAGES = 120 };   /* 7.5 MiB, so that growth is refused too */
 
 struct tried { uint64_t ok; uint8_t *p; };
 struct tried rattle_alloc(size_t n, size_t a);
 struct tried rattle_realloc(uint8_t *p, size_t kept, size_t n, size_t a);
 void rattle_dealloc(uint8_t *p);
+uint64_t page_sum(const uint64_t *at);
 
 /* A block that is in use, and the byte that all of it holds. */
 struct block { uint8_t *at; size_t length; uint8_t mark; };
@@ -78,7 +80,38 @@ static void resize(struct block *block) {
     }
 }
 
+/* Fails where a page of other words has the sum of the page as it was, or the same words don't. */
+static void check_sum(const uint64_t *page, uint64_t was, int is_same) {
+    if ((page_sum(page) == was) != is_same) fail(is_same ? "a page has another sum than before" : "a page that has changed has the sum that it had");
+}
+
+/* In a page of zeros and in one of noise: a bit turns, that word changes places with another, and the top
+ * bits of two words turn. */
+static void change_pages(uint64_t *page, int is_noise) {
+    for (int i = 0; i < WORDS; i++) page[i] = is_noise ? draw(1u << 31) << 33 ^ draw(1u << 31) : 0;
+    uint64_t was = page_sum(page);
+    for (int i = 0; i < CHANGES; i++) {
+        uint64_t at = draw(WORDS), to = (at + 1 + draw(WORDS - 1)) % WORDS, bit = (uint64_t)1 << draw(64), top = (uint64_t)1 << 63;
+        page[at] ^= bit;
+        check_sum(page, was, 0);
+        uint64_t one = page[at], other = page[to];
+        page[at] = other;
+        page[to] = one;
+        if (one != other) check_sum(page, was, 0);
+        page[at] = one ^ bit;
+        page[to] = other;
+        check_sum(page, was, 1);
+        page[at] ^= top;
+        page[to] ^= top;
+        check_sum(page, was, 0);
+        page[at] ^= top;
+        page[to] ^= top;
+        check_sum(page, was, 1);
+    }
+}
+
 int main(void) {
+    static uint64_t page[WORDS];
     base = mmap(0, (size_t)MOST_PAGES * PAGE, PROT_READ | PROT_WRITE, MAP_PRIVATE | MAP_ANONYMOUS | MAP_NORESERVE, -1, 0);
     if (base == MAP_FAILED) fail("no memory");
     for (long i = 0; i < REQUESTS; i++) {
@@ -98,6 +131,8 @@ int main(void) {
     for (int i = 0; i < BLOCKS; i++)
         if (blocks[i].at) check_mark(blocks[i].at, blocks[i].length, blocks[i].mark);
     if (refused == 0) fail("no growth was refused");
-    printf("heap-test: %d requests, of which %zu were refused\n", REQUESTS, refused);
+    change_pages(page, 0);
+    change_pages(page, 1);
+    printf("heap-test: %d requests, of which %zu were refused; %d changes of a page were seen\n", REQUESTS, refused, 6 * CHANGES);
     return 0;
 }

@@ -1,5 +1,6 @@
 /* The heap of the module p11.wasm: rattle_alloc, rattle_realloc and rattle_dealloc, for which the library asks, over
- * the module's own memory, which grows; and two exports by which the page gets room for what it hands in.
+ * the module's own memory, which grows; and three exports for the page: two by which it gets room for what it hands in, and
+ * a sum by which it finds the parts of the memory that have changed.
  *
  * It stands in the place of the toolchain's liblibc_c.a and of malloc, which WebAssembly doesn't have. It is C, and no
  * proof covers it. Blocks have one of four sizes between two powers of 2, and a freed block waits for a request of its
@@ -108,3 +109,21 @@ void rattle_dealloc(u8 *p) { give_back(p); }
 /* Room for the page: 0 where there is none. */
 EXPORT("page_alloc") u8 *page_alloc(size n) { return block(n); }
 EXPORT("page_free") void page_free(u8 *p) { give_back(p); }
+
+/* A round of xxHash64, by which each bit of s and of w counts. */
+static u64 lane(u64 s, u64 w) {
+    s += w * 0xC2B2AE3D27D4EB4Full;
+    return (s << 31 | s >> 33) * 0x9E3779B185EBCA87ull;
+}
+
+/* A sum of the PAGE bytes at an address: pages of one sum are taken for the same. Four lanes, which don't wait for each other. */
+EXPORT("page_sum") u64 page_sum(const u64 *at) {
+    u64 a = 1, b = 2, c = 3, d = 4;
+    for (const u64 *end = at + PAGE / sizeof *at; at < end; at += 4) {
+        a = lane(a, at[0]);
+        b = lane(b, at[1]);
+        c = lane(c, at[2]);
+        d = lane(d, at[3]);
+    }
+    return lane(lane(lane(a, b), c), d);
+}

@@ -2,7 +2,10 @@
 'use strict';
 
 const $ = (selector) => document.querySelector(selector);
-const ENGINE = ['engine/calls.js', 'engine/session.js', 'engine/worker.js'];
+const ENGINE = ['calls', 'session', 'pages', 'worker'].map((name) => `engine/${name}.js`);
+
+// The page as it came, where it is one file; it is copied with a program in it.
+const PAGE = globalThis.P11_INSIDE ? `<!doctype html>\n${document.documentElement.outerHTML}\n` : null;
 
 class App {
   constructor() {
@@ -17,6 +20,12 @@ class App {
   say(text) {
     this.screen.write(Uint8Array.from(text.replace(/\n/g, '\r\n'), (c) => c.charCodeAt(0)));
     this.view.speak(text);
+  }
+
+  // Nothing is done with a machine that isn't ready: keys wait, and panel and drives take nothing.
+  hold(isHeld) {
+    this.console.hold(isHeld);
+    for (const part of ['#panel', '#drives']) $(part).inert = isHeld;
   }
 
   note(text) { $('#note').textContent = text; }
@@ -51,7 +60,6 @@ class App {
   focus() { $('#keys').focus({ preventScroll: true }); }
 
   async open() {
-    listen(this);
     this.controls();
     this.paint();
     const [module, boots, store, ...sources] = await Promise.all([
@@ -62,9 +70,11 @@ class App {
       $('#refused').textContent = `The browser keeps nothing more of this session (${why}); its record can be downloaded.`;
     };
     store.onrefused(store.refused);
+    if (store.loss !== null) this.note(`The browser has lost the sessions that were kept: ${store.loss || 'it says no more'}.`);
     store.onlost = () => this.sessions.leave('(The session goes on in another tab; here is a new machine.)');
     this.kept = new KeptList($('#kept'), this);
     this.connect();
+    listen(this);
     this.showBoots();
     await this.begin();
     this.focus();
@@ -91,7 +101,7 @@ class App {
     link.on('stop', ({ text }) => this.console.stopped(text));
     link.on('line', ({ line, answer, tape }) => this.console.answered(line, answer, tape));
     link.on('lamps', (lamps) => this.lamps(lamps));
-    link.on('journal', (gained) => this.store.add(gained));
+    link.on('journal', (gained) => this.keep(gained));
     link.on('lost', ({ why }) => this.sessions.lost(why));
   }
 
@@ -99,9 +109,10 @@ class App {
   async begin() {
     const asked = new URLSearchParams(location.search);
     const [boot, pack, script] = ['boot', 'pack', 'script'].map((name) => asked.get(name));
-    const sessions = await this.store.list(), last = boot ?? pack ?? script ? undefined : sessions.find(({ turns, count }) => turns > 0 || count !== 0);
+    const sessions = await this.store.list(), lesson = lessonIn(), last = lesson ?? boot ?? pack ?? script ? undefined : sessions.find(({ turns, count }) => turns > 0 || count !== 0);
     if (last && await this.sessions.reopen(last.id)) return;
     if (sessions.length > 0) this.sessions.kwords = sessions[0].kwords;
+    if (lesson) { await this.sessions.openPacked(document.title, lesson); return; }
     this.say('p11: a PDP-11/40. Type help, drop a file,\nor boot something by a button above.\n');
     await this.sessions.fresh();
     if (boot) await this.sessions.boot(boot);
@@ -112,6 +123,14 @@ class App {
         ['Take it over', () => this.sessions.reopen(last.id, true)],
       ]);
     }
+  }
+
+  // Keeps what was done, and beside the machine's memory what the screen shows.
+  async keep(gained) {
+    const { link } = this, { pages } = gained;
+    if (pages) pages.head.screen = this.screen.picture();
+    const isKept = await this.store.add(gained) === true;
+    if (pages) link.ask('kept', { machine: pages.head.machine, isKept });
   }
 
   typed(bytes) {
@@ -130,6 +149,7 @@ class App {
 
   lamps(lamps) {
     this.panel.light(lamps);
+    this.sessions.progress(lamps.regs.turns);
     const million = lamps.rate / 1e6, rate = lamps.isIdle ? 'waits' : `${million.toFixed(million < 1 ? 2 : 1)} million turns a second`;
     $('#speed').textContent = lamps.isRunning ? rate + (lamps.keys > 0 ? `, ${lamps.keys} keys wait` : '') : '';
   }
@@ -163,6 +183,9 @@ class App {
     $('#kind').onchange = ({ target }) => { this.screen.isVt52 = target.value === '52'; };
     $('#load').onclick = () => this.pick();
     $('#record').onclick = async () => downloadRecord('session.p11', await this.link.ask('record'));
+    $('#packed').onclick = async () => download('session.p11z', await this.sessions.packed());
+    $('#page').onclick = async () => download('lesson.html', new TextEncoder().encode(pageWith(PAGE, await this.sessions.packed())));
+    $('#page').hidden = PAGE === null;
     $('#forget').onclick = () => this.kept.forgetAll();
     $('#theme').onclick = () => setFace(nextFace());
     setFace(keptFace());

@@ -12,12 +12,12 @@ class Console {
   // the engine couldn't do one.
   constructor({ link, say, find, onrun, ondone, onerror }) {
     Object.assign(this, { link, say, find, onrun, ondone, onerror });
-    this.history = [];
+    Object.assign(this, { history: [], waiting: [], isHeld: true });
     this.reset();
   }
 
   reset() {
-    Object.assign(this, { line: '', place: this.history.length, waiting: [], lastTyped: null });
+    Object.assign(this, { line: '', place: this.history.length, lastTyped: null });
     Object.assign(this, { isRunning: false, isBusy: false, isTold: false, isBrief: false });
   }
 
@@ -27,7 +27,16 @@ class Console {
   feed(codes, key) {
     if (!this.isRunning && codes[0] === ESC) codes = key === 'ArrowUp' || key === 'ArrowDown' ? [key] : [BELL];
     this.waiting = this.waiting.concat(codes);
-    if (!this.isBusy) this.drain();
+    this.takeOn();
+  }
+
+  takeOn() { if (!this.isBusy && !this.isHeld && this.waiting.length > 0) this.drain(); }
+
+  // Keys wait while it is held, as while a session is made ready; those of the one before are dropped.
+  hold(isHeld) {
+    if (isHeld && !this.isHeld) this.waiting = [];
+    this.isHeld = isHeld;
+    this.takeOn();
   }
 
   async drain() {
@@ -39,11 +48,11 @@ class Console {
     } finally {
       this.isBusy = false;
     }
-    if (this.waiting.length > 0) this.drain();
+    this.takeOn();
   }
 
   async takeAll() {
-    while (this.waiting.length > 0) {
+    while (this.waiting.length > 0 && !this.isHeld) {
       if (!this.isRunning) { await this.edit(this.waiting.shift()); continue; }
       const escape = this.waiting.indexOf(ESCAPE);
       const keys = this.waiting.splice(0, escape < 0 ? this.waiting.length : escape);

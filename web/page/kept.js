@@ -54,7 +54,7 @@ class KeptList {
   async exports(session) {
     const { app } = this, kept = await app.store.kept(session.id);
     if (!kept) return;
-    const own = kept.files.filter(({ name }) => !app.ships().includes(name));
+    const own = await app.store.files(session.id, app.ships());
     downloadRecord(`session-${session.id}.p11`, recordOf(kept));
     for (const { name, bytes } of own) download(name, bytes);
     app.note(`session-${session.id}.p11 is the record${own.length > 0 ? `; it wants beside it ${own.map(({ name }) => name).join(', ')}` : ''}.`);

@@ -1,5 +1,5 @@
 // What a file is that was dropped or picked, by what is in it, by its size and by its name:
-//   kindOf('diag.ptap', bytes)   { kind: 'script' }, { kind: 'tape' } or { kind: 'pack' }; { kind: 'pack', doubt: '..' } is to be asked, and
+//   kindOf('diag.ptap', bytes)   { kind: 'script' }, 'tape', 'pack' or 'packed' (a session in one file); { kind: 'pack', doubt: '..' } is to be asked, and
 //                                { refused: 'picture.png is a PNG picture, and no pack, tape or script' } is to be said
 'use strict';
 
@@ -16,6 +16,7 @@ const SCRIPT_WORDS = /^(examine|deposit|start|key|tick|clock|switches|set|step|c
 const TAPE_NAME = /\.(tape|ptap|ptp|pt|bic|lda|abs)$/i, PACK_NAME = /\.(pack|rk05|rk\d?|dsk|img)$/i;
 
 function kindOf(file, bytes) {
+  if (/\.p11z$/i.test(file)) return { kind: 'packed' };
   const other = OTHERS.find(([, from, mark]) => [...mark].every((c, at) => bytes[from + at] === c.charCodeAt(0)));
   if (other) return { refused: `${file} is ${other[0]}` };
   if (bytes.length === 0) return { refused: `${file} has no bytes` };

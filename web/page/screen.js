@@ -22,6 +22,17 @@ class Screen {
     this.cells = Array.from({ length: this.rows }, () => this.blank());
   }
 
+  // All that shows, as plain data; and the same again.
+  picture() {
+    const { sequences: { screen, ...sequences }, bells, gone, replies, ...own } = this;
+    return structuredClone({ own, sequences });
+  }
+
+  showAgain({ own, sequences }) {
+    Object.assign(this, own);
+    Object.assign(this.sequences, sequences);
+  }
+
   blank() { return new Array(this.columns).fill(' '); }
 
   // What it answers to the machine, which is to be sent there.

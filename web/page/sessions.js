@@ -1,6 +1,7 @@
-// Machines and their sessions: a new one, one of those that ship with the page, and the one that was kept, which is
-// resumed by playing its record again.
+// Machines and their sessions: a new one, one of those that ship with the page, and one that was kept, which goes on from the
+// kept pages of its memory, or, with another module, by playing its record again.
 //   const sessions = new Sessions(app); await sessions.fresh(28); await sessions.boot('monitor'); await sessions.reopen(7);
+//   await sessions.openPacked('mine.p11z', bytes); await sessions.packed()
 'use strict';
 
 class Sessions {
@@ -15,43 +16,77 @@ class Sessions {
     if (!await this.open(kwords)) return;
     this.begin({ kwords });
     this.app.console.open();
+    this.app.hold(false);
     this.app.openedIn ??= performance.now();
     await this.app.drives.show();
   }
 
-  // Opens a machine. Gives what tells whether it is still the one that was asked for last, or null where it is none already.
-  async open(kwords) {
+  // Opens a machine, of what is kept of a session if that is given, and leaves it held. Gives what tells whether it is still the one
+  // that was asked for last, with whether it was put together of kept pages; or null where it is none already.
+  async open(kwords, kept) {
     const { app } = this, number = ++this.machine, isLast = () => number === this.machine;
     this.kwords = kwords;
     app.memory.value = String(kwords);
-    await app.link.ask('open', { module: app.module.slice(), kwords });
+    app.hold(true);
+    const isRevived = await app.link.ask('open', { module: app.module.slice(), kwords, kept });
     if (!isLast()) return null;
     app.console.reset();
     app.panel.last = '';
     if (app.screen.x > 0) app.say('\n');
-    return isLast;
+    return Object.assign(isLast, { isRevived });
   }
 
-  // One of those in boots.json, on a machine of its own.
+  // One of those in boots.json.
   async boot(name) {
     const { app } = this, entry = app.boots.find((it) => it.name === name);
     if (!entry) {
       app.note(`Nothing of the name "${name}" ships with the page; there are ${app.boots.map((it) => it.name).join(', ')}.`);
       return;
     }
-    const isLast = await this.open(28);
-    if (!isLast) return;
-    this.begin({ kwords: this.kwords, title: entry.title });
-    app.say(`p11> do ${entry.script}\n`);
-    const script = await Shelf.text(entry.script), files = await Promise.all(entry.files.map((file) => Shelf.bytes(file)));
-    for (const [at, file] of entry.files.entries()) if (isLast()) await this.put(file, files[at]);
-    // the terminal makes the turns of a last line `continue`
-    if (isLast()) await app.console.play(entry.talk ? script.replace(/\ncontinue \d+\n$/, '\n') : script, true);
-    if (!isLast()) return;
+    const load = async () => {
+      const script = await Shelf.text(entry.script), contents = await Promise.all(entry.files.map((file) => Shelf.bytes(file)));
+      // the terminal makes the turns of a last line `continue`
+      return { script: entry.talk ? script.replace(/\ncontinue \d+\n$/, '\n') : script, files: entry.files.map((file, at) => ({ name: file, bytes: contents[at] })) };
+    };
+    if (!await this.start({ kwords: 28, title: entry.title, shown: entry.script, load, isBrief: true })) return;
     app.note(`${entry.about} Type first: ${entry.first}`);
     await app.drives.show();
     if (entry.talk) await app.console.talk(); else app.console.open();
     app.focus();
+  }
+
+  // A session that is packed in one file.
+  async openPacked(name, bytes) {
+    const { app } = this;
+    try {
+      const packed = await unpacked(bytes);
+      if (!await this.start({ kwords: packed.kwords, title: name, shown: name, load: () => packed })) return;
+      await app.drives.show();
+      if (packed.talks) await app.console.talk(); else app.console.open();
+    } catch (error) {
+      app.note(`${name} is no session: ${error.message}.`);
+    }
+  }
+
+  // A session of its own, on a new machine: files, and a script that is played. Whether no other one was asked for meanwhile.
+  async start({ kwords, title, shown, load, isBrief = false }) {
+    const { app } = this, isLast = await this.open(kwords);
+    if (!isLast) return false;
+    this.begin({ kwords, title });
+    app.say(`p11> do ${shown}\n`);
+    const { script, files } = await load();
+    for (const { name, bytes } of files) if (isLast()) await this.put(name, bytes);
+    if (!isLast()) return false;
+    app.hold(false);
+    await app.console.play(script, isBrief);
+    return isLast();
+  }
+
+  // The session that is open, in one file. Where the browser keeps nothing, its files are as the machine has them now.
+  async packed() {
+    const { app } = this, record = await app.link.ask('record'), { session } = app.store;
+    const there = async () => Promise.all((await app.link.ask('files')).map(async ([name]) => ({ name, bytes: await app.link.ask('file', { name }) })));
+    return packedOf({ record, kwords: this.kwords, talks: app.console.isRunning, files: session ? await app.store.files(session.id) : await there() });
   }
 
   // Keeps what is done from now on as a session of its own.
@@ -86,19 +121,29 @@ class Sessions {
     return true;
   }
 
-  // Plays the record of a kept session again: the machine comes to the state that it had.
+  // Goes on with a kept session: from its pages, and what was recorded since is played; or all of its record is played again.
   async resume(kept) {
-    const { app } = this, { session, lines, files } = kept;
-    const isLast = await this.open(session.kwords);
+    const { app } = this, { session, lines, pages } = kept, began = performance.now();
+    const isLast = await this.open(session.kwords, { lines, pages, steps: session.steps });
     if (!isLast) return;
-    for (const { name, bytes } of files) await app.link.ask('put', { name, bytes });
-    const offer = app.offer(`The session of ${lines.length.toLocaleString('en')} lines goes on: its record is played again.`, [
-      ['Begin with a new machine instead', () => this.leave()],
-    ]);
-    const { typed, turns } = await app.link.ask('play', { text: recordOf(kept), isQuiet: true });
-    offer.close();
-    if (!isLast()) return;
     await app.store.resume(kept);
+    const { isRevived } = isLast, there = isRevived ? (await app.link.ask('files')).map(([name]) => name) : [];
+    for (const { name, bytes } of await app.store.files(session.id, there)) await app.link.ask('put', { name, bytes });
+    const offer = isRevived ? null : this.offerToStop(lines.length, session.turns);
+    const { typed, turns } = await app.link.ask('again');
+    offer?.close();
+    if (!isLast()) return;
+    this.goOn(kept, isRevived, typed, turns);
+    await app.drives.show();
+    if (session.isTalking) await app.console.talk(); else app.console.open();
+    app.hold(false);
+    app.back = { isRevived, ms: performance.now() - began };
+  }
+
+  // What a session that goes on shows.
+  goOn({ session, pages }, isRevived, typed, turns) {
+    const { app } = this;
+    if (isRevived) app.screen.showAgain(pages.head.screen);
     for (const bytes of typed) app.screen.write(bytes);
     app.screen.takeReplies();
     if (app.screen.x > 0) app.say('\n');
@@ -106,9 +151,18 @@ class Sessions {
     if (turns !== session.turns) app.note(`The record came to ${turns} turns, and the session had ${session.turns}.`);
     app.setClock(session.hertz ?? 0);
     app.setPace(session.pace ?? 0);
-    await app.drives.show();
-    if (session.isTalking) await app.console.talk(); else app.console.open();
   }
+
+  // Says that a record is played again, with how far it is, and offers to end that.
+  offerToStop(lines, turns) {
+    this.bar = Object.assign(document.createElement('progress'), { max: Math.max(1, turns), value: 0, ariaLabel: 'how much of it was played' });
+    const told = document.createElement('span');
+    told.append(`The session of ${lines.toLocaleString('en')} lines goes on: its record is played again. `, this.bar);
+    return this.app.offer(told, [['Begin with a new machine instead', () => this.leave()]]);
+  }
+
+  // How many turns the machine has made: it may be coming to where it was.
+  progress(turns) { if (this.bar) this.bar.value = turns; }
 
   // Ends the worker, also while it plays a long record, and begins anew; the session stays kept.
   async leave(why = '') {
@@ -134,10 +188,12 @@ class Sessions {
   // -- a file that was dropped or picked, for a drive where one is named
   async take(file, drive) {
     const { app } = this, bytes = await contentOf(file);
+    if (app.console.isHeld) { app.note(`${file.name} is left out: the machine isn't ready yet.`); return; }
     if (!bytes) { app.note(`${file.name} can't be read: of a folder, drop the files that are in it.`); return; }
     const { kind, doubt, refused } = kindOf(file.name, bytes);
     if (refused) { app.note(`${refused}.`); return; }
     if (doubt && !await app.ask(`${doubt}. Is it a pack?`, 'Mount it')) { app.note(`${file.name} is left out.`); return; }
+    if (kind === 'packed') { await this.openPacked(file.name, bytes); return; }
     await (kind === 'script' ? this.play(file.name, bytes) : this.use(file.name, bytes, kind, drive));
   }
 

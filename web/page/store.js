@@ -1,10 +1,10 @@
-// What the browser keeps of a session, so that nothing is lost when the page is closed: the lines of its record and the
-// files that were put into it, in IndexedDB. Other sessions stay kept beside it.
+// What the browser keeps of a session, so that nothing is lost when the page is closed: the lines of its record, the files that were
+// put into it, and the pages of its module's memory, by which it is back at once, in IndexedDB. Other sessions stay kept beside it.
 //   const store = await Store.open(); store.begin({ kwords: 28 }); store.add(..); await store.last; await store.list();
 // Where the browser refuses it, store.refused says why, and nothing more is kept until a session begins that can be.
 'use strict';
 
-const MOST_SESSIONS = 20, TABLES = ['sessions', 'lines', 'files'];
+const MOST_SESSIONS = 20, TABLES = ['sessions', 'lines', 'files', 'pages'], HEAD = -2;
 const ofSession = (id) => IDBKeyRange.bound([id], [id, []]);
 
 const wait = (request) => new Promise((done, fail) => {
@@ -12,18 +12,31 @@ const wait = (request) => new Promise((done, fail) => {
   request.onerror = () => fail(request.error);
 });
 
+// The database; an earlier page's has no pages. Another tab may have that one open. Chromium tells where a damaged one was dropped.
+function opened(onloss) {
+  const request = indexedDB.open('p11', 2);
+  request.onupgradeneeded = ({ oldVersion, dataLoss, dataLossMessage }) => {
+    if (dataLoss === 'total') onloss(dataLossMessage);
+    const { result } = request;
+    if (oldVersion < 1) {
+      result.createObjectStore('sessions', { keyPath: 'id', autoIncrement: true });
+      result.createObjectStore('lines', { keyPath: ['id', 'from'] });
+      result.createObjectStore('files', { keyPath: ['id', 'name'] });
+    }
+    result.createObjectStore('pages', { keyPath: ['id', 'n'] });   // in front of them, at HEAD, what is known beside them
+  };
+  return new Promise((done, fail) => {
+    request.onblocked = () => fail(new Error('another tab has an earlier form of this page'));
+    wait(request).then(done, fail);
+  });
+}
+
 class Store {
   static async open() {
     const store = new Store();
     try {
-      const request = indexedDB.open('p11', 1);
-      request.onupgradeneeded = () => {
-        const { result } = request;
-        result.createObjectStore('sessions', { keyPath: 'id', autoIncrement: true });
-        result.createObjectStore('lines', { keyPath: ['id', 'from'] });
-        result.createObjectStore('files', { keyPath: ['id', 'name'] });
-      };
-      store.db = await wait(request);
+      store.db = await opened((why) => { store.loss = why; });
+      store.db.onversionchange = () => store.db.close();
     } catch (error) {
       store.refuse(error);
     }
@@ -35,6 +48,7 @@ class Store {
     this.session = null;      // { id, name, begun, used, kwords, steps, turns, count, bytes, isTalking }; count is that of lines
     this.claim = null;
     this.refused = '';
+    this.loss = null;         // why the browser has lost what was kept, if it has
     this.onrefused = () => {};
     this.onlost = () => {};
     this.last = Promise.resolve();
@@ -102,23 +116,31 @@ class Store {
 
   drop(table, id) {
     table('sessions').delete(id);
-    for (const name of ['lines', 'files']) table(name).delete(ofSession(id));
+    for (const name of ['lines', 'files', 'pages']) table(name).delete(ofSession(id));
   }
 
-  // What the record has gained.
-  add({ from, lines, steps, turns }) {
+  // What the record has gained, and with it the pages that have changed: whether they are kept.
+  add({ from, lines, steps, turns, pages }) {
     if (lines.length > 0 && !this.isAsked) {
       this.isAsked = true;
       navigator.storage?.persist?.().catch(() => {});
     }
     return this.change((table) => {
       const { session } = this;
-      if (!session) return;
+      if (!session) return false;
       Object.assign(session, { steps, turns, used: Date.now(), count: from + lines.length });
       session.bytes += lines.reduce((sum, line) => sum + line.length + 1, 0);
       if (lines.length > 0) table('lines').put({ id: session.id, from, lines });
       table('sessions').put(session);
+      if (pages) this.addPages(table, session.id, pages);
+      return true;
     });
+  }
+
+  addPages(table, id, { head, isAll, rows }) {
+    if (isAll) table('pages').delete(ofSession(id));
+    table('pages').put({ id, n: HEAD, head });
+    for (const { n, bytes } of rows) table('pages').put({ id, n, bytes });
   }
 
   note(facts) {
@@ -140,14 +162,22 @@ class Store {
   // The sessions that are kept, the one that was used last in front.
   async list() { return (await this.change((table) => wait(table('sessions').getAll())) ?? []).toSorted(byUse); }
 
-  // A kept session: what it was, its lines and its files; null where there is none of the number.
+  // A kept session: what it was, its lines, and its pages, if it has any; null where there is none of the number.
   async kept(id) {
     return (await this.change(async (table) => {
-      const session = await wait(table('sessions').get(id));
+      const [session, parts, [first, ...rows]] = await Promise.all([
+        wait(table('sessions').get(id)), ...['lines', 'pages'].map((name) => wait(table(name).getAll(ofSession(id))))]);
       if (!session) return null;
-      const parts = await wait(table('lines').getAll(ofSession(id))), files = await wait(table('files').getAll(ofSession(id)));
-      return { session, lines: parts.flatMap((part) => part.lines), files };
+      return { session, lines: parts.flatMap((part) => part.lines), pages: first ? { head: first.head, rows } : null };
     })) ?? null;
+  }
+
+  // The files that were put into a session, but for those of these names.
+  async files(id, without = []) {
+    return (await this.change(async (table) => {
+      const names = await wait(table('files').getAllKeys(ofSession(id)));
+      return Promise.all(names.filter(([, name]) => !without.includes(name)).map((key) => wait(table('files').get(key))));
+    })) ?? [];
   }
 
   // Goes on with a kept session, whose lines become one row.

@@ -1,0 +1,113 @@
+// A session is back at once, from the kept pages of its module's memory: the same machine that its record comes to if it is played again,
+// as it is for another module, with a button that ends that; also where the browser was killed.
+'use strict';
+const assert = require('assert'), fs = require('fs'), os = require('os'), path = require('path');
+const { open } = require('./browser.js');
+const { sleep } = require('./page.js');
+const { play, stateOf, STATE } = require('./compare.js');
+const { settle, kept } = require('./evening.js');
+
+const TURNS = 50000000, MOST_MS = 2000, KILLS = 4, MOST_WAIT = 2500;
+const COUNTS = 'deposit 1000 5267 1000 5200 10021 20127 20000 103402 12701 4000 766\rset 1 4000\rstart 1000\r';
+const record = (page) => page.eval("app.link.ask('record')");
+const turnsOf = (page) => page.eval("app.link.ask('regs').then((it) => it.turns)");
+const attempt = (page, line) => page.eval(`app.console.attempt(${JSON.stringify(line)})`);
+const isBack = (page) => page.until('app.back && !app.console.isHeld && app.link.asked.size === 0');
+
+// Until the pages are kept too, as the machine is now, between two runs.
+async function keptWhole(page) {
+  await kept(page);
+  await page.until(`Promise.all([app.store.kept(app.store.session.id), app.link.ask('record')]).then(([{ lines, pages }, record]) =>
+    pages !== null && pages.head.state.lines === lines.length && lines.map((line) => line + '\\n').join('') === record)`);
+}
+
+// Has the session open next time as if it were another module's.
+const ofAnother = (page) => page.eval(`app.store.change((table) => {
+  const request = table('pages').get([app.store.session.id, -2]);
+  request.onsuccess = () => table('pages').put({ ...request.result, head: { ...request.result.head, module: 'another' } });
+})`);
+
+async function back({ page, url, say }) {
+  await page.goTo(url);
+  await page.eval('app.sessions.fresh(28)');
+  await page.click('#screen');
+  await page.type(`${COUNTS}continue ${TURNS}\r`);
+  await page.until(`app.view.text().includes('STOP turns ${TURNS} ')`);
+  const state = await stateOf(page), was = await record(page);
+  await keptWhole(page);
+  for (const isRevived of [true, false]) {
+    if (!isRevived) {
+      await keptWhole(page);
+      await ofAnother(page);
+    }
+    await page.replace();
+    await page.navigate(url);
+    await page.until("globalThis.app?.console !== undefined && document.querySelector('#keys').value === ' '");
+    await page.click('#screen');
+    await page.type('examine 1000\r');
+    await isBack(page);
+    await page.until("app.view.text().includes('EXAM 001000 005267')");
+    const { ms, ...how } = await page.eval('app.back');
+    assert.equal(how.isRevived, isRevived, 'the session is back by the other way');
+    const now = await record(page);
+    assert(now.startsWith(was) && now.endsWith('\nexamine 1000\n'), 'the record is another');
+    assert.equal(await stateOf(page), state, 'registers, devices or memory are others');
+    if (isRevived) assert(ms < MOST_MS, `the session is back in ${ms} ms`);
+    say(isRevived ? `a session is back ${TURNS.toLocaleString('en')} turns later in ${Math.round(ms)} ms, and a key pressed meanwhile comes after`
+      : `of another module the record is played again in ${Math.round(ms)} ms: the same machine`);
+  }
+}
+
+// The record of a long run is played again with how far it is; a button ends that, and the session stays kept.
+async function stopped({ page, url, say }) {
+  const first = await page.eval('app.store.session.id');
+  await keptWhole(page);
+  await page.eval('app.store.change((table) => { app.store.session.steps = 2000000000; table("sessions").put(app.store.session); })');
+  await ofAnother(page);
+  await page.replace();
+  await page.navigate(url);
+  await page.until("document.querySelector('#offer progress')?.value > 0");
+  await page.click('#offer button');
+  await page.until("app.store.session && !app.console.isHeld && app.view.text().trimEnd().endsWith('p11>')");
+  assert.notEqual(await page.eval('app.store.session.id'), first);
+  assert(await page.eval(`app.store.kept(${first}).then((it) => it !== null)`), 'the session that was stopped is gone');
+  await page.eval(`app.store.forget(${first})`);
+  say('a long record is played with how far it is, and a button ends that');
+}
+
+// The browser is killed at random moments of a run in which keys are pressed and a pack is written to: what was kept is there, and the
+// machine is that to which ./p11 comes by the record.
+async function kills({ command, url, native, say, count = KILLS }) {
+  const home = fs.mkdtempSync(path.join(os.tmpdir(), 'p11-killed-'));
+  let told = 0, revived = 0, page = null;
+  try {
+    for (let n = 0; n <= count; n++) {
+      page = await open(url, { downloads: native.folder, command, home });
+      if (n === 0) await attempt(page, 'deposit 1000 777');
+      else {
+        await isBack(page);
+        revived += await page.eval('app.back.isRevived');
+        await page.eval('app.console.halt()');
+        const turns = await turnsOf(page), [state, script] = [await stateOf(page), await record(page)];
+        assert(turns >= told, `after kill ${n} ${told} turns were told, and ${turns} are there`);
+        assert(play(script, native).endsWith(state), `after kill ${n} ./p11 comes to another state`);
+      }
+      for (const line of COUNTS.trim().split('\r')) await attempt(page, line);
+      await page.eval("app.setClock(60)");
+      await page.eval('app.console.talk()');
+      for (const end = Date.now() + Math.random() * MOST_WAIT; Date.now() < end;) {
+        await page.eval("app.link.ask('keys', { bytes: [120] }).then(() => app.store.last)");
+        told = await page.eval('app.store.session.turns');
+        await sleep(20);
+      }
+      await page.kill();
+      page = null;
+    }
+  } finally {
+    await page?.kill();
+    fs.rmSync(home, { recursive: true, force: true, maxRetries: 5, retryDelay: 200 });
+  }
+  say(`the browser was killed ${count} times: nothing that was kept is lost, ${revived} times the session was back by its pages, and ./p11 comes to the same`);
+}
+
+module.exports = { back, stopped, kills };
