@@ -29,6 +29,7 @@ pub(crate) fn hand_wanted(asked: Option<&[u8]>, out: &mut [u8], out_length: &mut
 }
 
 /// Copies the lines of the devices into the caller's buffer, if that has room for them; it is told the length.
+#[tactic(auto, unfolding(crate::specs::HeldRuns::KeepsText))]
 pub(crate) fn hand_devices(
     alloc: Global,
     panel: &Panel,
@@ -39,8 +40,8 @@ pub(crate) fn hand_devices(
 {
     let answer = Answer::Devices(panel.devices());
     let (status, text) = answer_text(alloc, &answer);
-    if status != Status::Done {
-        return Status::NoMemory;
+    match status {
+        Status::Done => hand_text(text.as_slice(), out, out_length),
+        _ => Status::NoMemory,
     }
-    hand_text(text.as_slice(), out, out_length)
 }
