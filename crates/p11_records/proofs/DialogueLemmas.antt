@@ -1,5 +1,5 @@
 -- A dialogue, event by event: what is recorded and due does again what was done.
-use Rattle.std.proofs.Common.{◌≡◌, ℕ, ◌+◌, ◌-◌, ◌≤◌, Bool, true, false, ◌&&◌, ◌||◌, not, nat_lt, if◌then◌else◌, List, [], ◌∷◌, ◌++◌, append-nil, append_assoc, take, drop, Option, Some, None, Result, Ok, Err, refl, sym, ap, subst, ◌∙◌, inl, inr, slice_get}
+use Rattle.std.proofs.Common.{◌≡◌, ℕ, ◌+◌, ◌≤◌, Bool, true, false, nat_lt, if◌then◌else◌, List, [], ◌∷◌, ◌++◌, append-nil, append_assoc, take, drop, Option, Some, None, Result, Ok, Err, refl, sym, ap, subst, ◌∙◌, inl, slice_get}
 use Rattle.std.specs.Prelude.{position}
 use Rattle.std.specs.Bool.{MatchBool}
 use Rattle.std.proofs.lemmas.List.{take-append-drop}
@@ -25,7 +25,7 @@ use Rattle.p11_panel.specs.declared.command.Command.TheVariants as commands
 use Rattle.p11_panel.specs.Commands.{CommandStep}
 use Rattle.p11_panel.specs.Keys.{pressed}
 use Rattle.p11_panel.specs.Session.{SessionState, with_store, fault_of, Obeys}
-use Rattle.p11_store.specs.Store.{StoreState, Fetches}
+use Rattle.p11_store.specs.Store.{StoreState}
 use Rattle.p11_store.specs.declared.store.StoreError.{StoreError}
 use Rattle.p11_console.specs.Files.{Gives, GivesLine, GivesScript, Names, Takes, TakesPut, file_command, file_name, image_in, opening, wanted, way_missing}
 use Rattle.p11_console.specs.Lines.{behind_at, behind_line, first_line, is_line_feed}
@@ -33,7 +33,7 @@ use Rattle.p11_console.specs.Manner.{is_batch, tried_by}
 use Rattle.p11_console.specs.Record.{ended, keys_text, recorded, run_text, tick_text}
 use Rattle.p11_console.specs.Runs.{behind_escape, goes_on, next_run, pressed_on, recorded_on, slice_turns, talk_of, typed_in, without_interrupt}
 use Rattle.p11_console.specs.State.{ConsoleState, opened}
-use Rattle.p11_console.specs.Steps.{Answers, AnswersBy, Begins, Completes, DoesGiven, DoesMeant, DoesPhrase, DoesScripted, FindsLine, Leaves, LeavesBy, Moves, Reads, ReadsAs, Runs, RunsBy, Steps, StepsAgain, TakesKey, TakesLine, TicksIn, Types, agrees, course_now, goes_behind, has_given, has_scripted, has_some, is_all, is_by_person, keys_now, steps_again, stopped_by, way_agreed, way_behind, way_ended, way_stopped}
+use Rattle.p11_console.specs.Steps.{Answers, AnswersBy, Begins, Completes, DoesGiven, DoesMeant, DoesPhrase, DoesScripted, FindsLine, Leaves, LeavesBy, Moves, Reads, ReadsAs, Runs, RunsBy, Steps, StepsAgain, TakesKey, TakesLine, TicksIn, Types, agrees, course_now, has_given, has_scripted, has_some, is_all, is_by_person, keys_now, steps_again, way_behind, way_ended, way_stopped}
 use Rattle.p11_console.specs.Tries.{Acts, refused}
 use Rattle.p11_console.specs.Typing.{outcome_way}
 use Rattle.p11_console.specs.declared.run.Course.{Course}
@@ -53,7 +53,7 @@ use Rattle.p11_records.specs.Again.{Alike}
 use Rattle.p11_records.specs.Dialogue as dialogue
 use Rattle.p11_records.specs.Dialogue.{Comes, Dialogue, DialoguesDoAgain, Event, Gets, Happen, Happens, HostDoes, Keeps, begun, due, due_now, record_of, session_of, taken_at, typed_at, typed_on}
 use Rattle.p11_records.proofs.LinesFit.{AreBytes, IsSmall}
-use Rattle.p11_records.proofs.LinesRecorded.{Brings, begun_holds, is_way, line_done, talk_holds, text_tried}
+use Rattle.p11_records.proofs.LinesRecorded.{Brings, begun_holds, line_done, talk_holds, text_tried}
 use Rattle.p11_records.proofs.OutcomeLemmas.{runs as runs_turns, answered, refused_leaves, types_nothing}
 use Rattle.p11_records.proofs.RecordLemmas.{Again, failed, none, played}
 use Rattle.p11_records.proofs.RunsRecorded.{keyed, keys_leave_none, not_full, slice_holds, some_given, tick_leaves_none, ticked, within}

@@ -1,9 +1,8 @@
 -- Lines that are tried: what is recorded of them does them again.
-use Rattle.std.proofs.Common.{◌≡◌, ℕ, Bool, true, false, ◌||◌, not, nat_lt, ◌==◌, if◌then◌else◌, List, [], ◌++◌, append-nil, Option, Some, None, Result, Ok, Err, refl, sym, ap, subst, ◌∙◌, arith, inl, inr}
+use Rattle.std.proofs.Common.{◌≡◌, ℕ, Bool, true, false, ◌||◌, not, nat_lt, ◌==◌, if◌then◌else◌, List, [], ◌++◌, append-nil, Option, Some, None, refl, sym, subst, ◌∙◌}
 use Rattle.std.specs.Bool.{MatchBool}
 use Rattle.p11_lines.specs.declared.answer.Answer.{Answer}
 use Rattle.p11_lines.specs.declared.answer.Answer.TheVariants as answers
-use Rattle.p11_lines.specs.declared.fault.Fault.{Fault}
 use Rattle.p11_lines.specs.declared.fault.Fault.TheVariants.{BadLine, TooMany}
 use Rattle.p11_lines.specs.declared.line.Line.{Line}
 use Rattle.p11_lines.specs.declared.line.Line.TheVariants as lines
@@ -19,7 +18,7 @@ use Rattle.p11_store.specs.Store.{StoreState}
 use Rattle.p11_console.specs.Own.{own_of, name_of}
 use Rattle.p11_console.specs.Record.{ended, recorded}
 use Rattle.p11_console.specs.Runs.{run_of, talk_of, typed_in}
-use Rattle.p11_console.specs.Tries.{Acts, ActsOr, Does, DoesLine, Saves, Tries, TriesLine, TriesOr, TriesRun, command_of, run_begun, way_saved}
+use Rattle.p11_console.specs.Tries.{Acts, Does, DoesLine, Saves, Tries, TriesLine, TriesOr, TriesRun, command_of, run_begun, way_saved}
 use Rattle.p11_console.specs.declared.own.Own.{Own}
 use Rattle.p11_console.specs.declared.own.Own.TheVariants as own
 use Rattle.p11_console.specs.declared.settings.Trying.{Trying}

@@ -1,6 +1,6 @@
 -- Slices of a run are one run, if none of them but the last halts.
-use Rattle.std.proofs.Common.{◌≡◌, ℕ, zero, suc, ◌+◌, ◌-◌, ◌<◌, ◌≤◌, Bool, true, false, ◌&&◌, ◌||◌, nat_lt, ◌==◌, if◌then◌else◌, List, [], ◌++◌, Option, Some, None, refl, ap, subst, sym, ◌∙◌, arith, inl, inr}
-use Rattle.std.proofs.lemmas.Bool.{cases_Bool, cases_lt}
+use Rattle.std.proofs.Common.{◌≡◌, ℕ, ◌+◌, ◌-◌, ◌<◌, ◌≤◌, Bool, true, false, ◌&&◌, nat_lt, ◌==◌, if◌then◌else◌, List, [], ◌++◌, Option, Some, None, refl, ap, subst, sym, ◌∙◌, arith, inl, inr}
+use Rattle.std.proofs.lemmas.Bool.{cases_lt}
 use Rattle.std.proofs.lemmas.Bool.Decides.{nat_tests}
 use Rattle.p11_lines.specs.declared.answer.Answer.{Answer}
 use Rattle.p11_lines.specs.declared.answer.Answer.TheVariants as answers
@@ -14,7 +14,7 @@ use Rattle.p11_cpu.specs.Turns.{after_turns}
 use Rattle.p11_panel.specs.declared.command.Command.TheVariants as commands
 use Rattle.p11_panel.specs.Calls.Runs.{run_command}
 use Rattle.p11_panel.specs.Commands.{CommandStep}
-use Rattle.p11_panel.specs.Runs.{step_fault, last_halted, turns_made, reason_of, stopped, whole_run}
+use Rattle.p11_panel.specs.Runs.{step_fault, last_halted, turns_made, reason_of, whole_run}
 use Rattle.p11_panel.proofs.RunLemmas.{turns_after}
 use Rattle.p11_records.proofs.OutcomeLemmas.{no_stop}
 use Rattle.p11_records.proofs.RunLemmas.{Made, as_step, by_fault, halted_after, ran_on, refuses, tests_of, within}

@@ -13,7 +13,7 @@ use Rattle.p11_lines.specs.declared.fault.Fault.{Fault}
 use Rattle.p11_lines.specs.declared.line.Line.TheVariants as lines
 use Rattle.p11_cpu.specs.OperatorDevices.{take_typed_of}
 use Rattle.p11_cpu.specs.State.{State}
-use Rattle.p11_cpu.specs.Turns.{after_turns, turn_of}
+use Rattle.p11_cpu.specs.Turns.{after_turns}
 use Rattle.p11_panel.specs.declared.command.Command.TheVariants as commands
 use Rattle.p11_panel.specs.Calls.Runs.{stops_idling, stop_of, IsMemory, IsRun, run_command}
 use Rattle.p11_panel.specs.Commands.{outcome, turns_in, CommandStep}

@@ -1,5 +1,5 @@
 -- A run in slices: what is recorded of it makes it again.
-use Rattle.std.proofs.Common.{◌≡◌, ℕ, zero, suc, ◌+◌, ◌-◌, ◌<◌, ◌≤◌, Bool, true, false, not, ◌&&◌, ◌||◌, nat_lt, ◌==◌, if◌then◌else◌, List, [], ◌∷◌, ◌++◌, append-nil, append_assoc, length, take, Option, Some, None, refl, sym, ap, subst, ◌∙◌, arith, inl, inr}
+use Rattle.std.proofs.Common.{◌≡◌, ℕ, zero, suc, ◌+◌, ◌-◌, ◌<◌, ◌≤◌, Bool, true, false, not, ◌&&◌, nat_lt, if◌then◌else◌, List, [], ◌∷◌, ◌++◌, append-nil, append_assoc, length, take, Option, Some, None, refl, sym, ap, subst, ◌∙◌, arith, inl, inr}
 use Rattle.std.specs.Prelude.{nat_le, nat_eq, min, max, codes, position, slice_index, unwrap_or}
 use Rattle.std.proofs.lemmas.Bool.Decides.{nat_tests}
 use Rattle.std.proofs.lemmas.List.{length-append, length-take}
@@ -19,7 +19,6 @@ use Rattle.p11_panel.specs.declared.command.Command.TheVariants as commands
 use Rattle.p11_panel.specs.Calls.Runs.{run_command}
 use Rattle.p11_panel.specs.Commands.{CommandStep}
 use Rattle.p11_panel.specs.Keys.{pressed}
-use Rattle.p11_panel.specs.Runs.{last_halted}
 use Rattle.p11_panel.specs.Script.{without_cr}
 use Rattle.p11_panel.specs.Session.{SessionState, with_store, Obeys}
 use Rattle.p11_store.specs.Store.{StoreState}
@@ -30,17 +29,14 @@ use Rattle.p11_console.specs.Steps.{way_behind, way_stopped}
 use Rattle.p11_console.specs.declared.run.Course.{Course}
 use Rattle.p11_console.specs.declared.run.Course.TheVariants as course
 use Rattle.p11_console.specs.declared.run.Run.{Run}
-use Rattle.p11_console.specs.declared.way.Way.{Way}
 use Rattle.p11_console.specs.declared.way.Way.TheVariants as ways
-use Rattle.p11_records.specs.Dialogue.{typed_on}
 use Rattle.p11_records.specs.Again.{IsOfScript}
 use Rattle.p11_records.proofs.LinesFit.{AreBytes, of_script, room_small}
 use Rattle.p11_records.proofs.MergedLemmas.{merged_more, run_goes_on, runs_on, same_halts}
-use Rattle.p11_records.proofs.OutcomeLemmas.{no_stop}
 use Rattle.p11_records.proofs.RecordLemmas.{Again, one_more}
 use Rattle.p11_records.proofs.RunLemmas.{Made, made_by, refused_run}
 use Rattle.p11_records.proofs.TypedCommands.{pressed_stays, run_answers, run_leaves_none, step_stays}
-use Rattle.p11_records.proofs.UnderWay.{Going, Holds, Now, Open, closes, goes, opens}
+use Rattle.p11_records.proofs.UnderWay.{Going, Holds, Now, Open, closes}
 
 -- A SLICE
 

@@ -1,10 +1,9 @@
 -- No command but a run types a character or takes one.
-use Rattle.std.proofs.Common.{◌≡◌, ℕ, zero, suc, ◌+◌, ◌*◌, ◌%◌, ◌<◌, ◌||◌, ◌&&◌, nat_lt, Bool, true, false, cond, ◌==◌, if◌then◌else◌, List, [], ◌∷◌, ◌++◌, length, Option, Some, None, Result, Ok, Err, refl, sym, ap, subst, ◌∙◌, arith, inl, inr}
-use Rattle.std.specs.Prelude.{nat_le, fold}
+use Rattle.std.proofs.Common.{◌≡◌, ℕ, zero, suc, ◌+◌, ◌*◌, ◌%◌, nat_lt, Bool, true, false, cond, ◌==◌, if◌then◌else◌, List, [], ◌∷◌, length, Option, Some, None, Result, Ok, Err, refl, sym, ap, ◌∙◌, arith, inl, inr}
+use Rattle.std.specs.Prelude.{nat_le}
 use Rattle.std.specs.Option.{option_map_or}
 use Rattle.p11_lines.specs.declared.answer.Answer.{Answer}
 use Rattle.p11_lines.specs.declared.answer.Answer.TheVariants as answers
-use Rattle.p11_lines.specs.declared.answer.StopReason.TheVariants as reasons
 use Rattle.p11_lines.specs.declared.fault.Fault.{Fault}
 use Rattle.p11_kt11.specs.Registers as management
 use Rattle.p11_rk11.specs.Memory.{has_word}
@@ -28,7 +27,7 @@ use Rattle.p11_cpu.specs.Turns.{after_turns}
 use Rattle.p11_panel.specs.declared.command.Command.{Command}
 use Rattle.p11_panel.specs.declared.command.Command.TheVariants as commands
 use Rattle.p11_panel.specs.Calls.Runs.{run_command}
-use Rattle.p11_panel.specs.Commands.{outcome, turns_in, CommandStep}
+use Rattle.p11_panel.specs.Commands.{outcome, CommandStep}
 use Rattle.p11_panel.specs.Disks.{mount_fault, on_pack}
 use Rattle.p11_panel.specs.Keys.{pressed}
 use Rattle.p11_panel.specs.Ranges.{deposit_fault, deposited, examine_fault, examined, reads_at}

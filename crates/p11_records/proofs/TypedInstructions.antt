@@ -26,7 +26,7 @@ use Rattle.p11_cpu.specs.Instructions.{execute_of}
 use Rattle.p11_cpu.specs.Operands.{address_in, indexed, is_mode_0, operands_of, place_in, place_of, pop_of, push_register_of, read_place_of, step_of, stored_in, target_of, value_of, write_moved_of, write_place_of}
 use Rattle.p11_cpu.specs.PreviousSpace.{read_previous_of, write_previous_of}
 use Rattle.p11_cpu.specs.ProcessorControl.{resumed, waiting, halt_instruction, halted, initialized, is_kernel, named_codes_of, reset_in_kernel, trap_vector}
-use Rattle.p11_cpu.specs.ProgramControl.{branched, branch_address, counted_back, is_taken}
+use Rattle.p11_cpu.specs.ProgramControl.{branched, counted_back, is_taken}
 use Rattle.p11_cpu.specs.References.{read_at, read_in, write_at, write_in}
 use Rattle.p11_cpu.specs.Registers.{codes_of, pair_of_registers, register_in, register_of, set_pair_of, set_register_in, set_register_of}
 use Rattle.p11_cpu.specs.SingleOperand.{bitwise, single_of, store_only_of}

@@ -1,11 +1,10 @@
 -- Characters that were typed and that nobody took are nothing to a turn: the machine goes on as without them, and types
 -- behind them.
-use Rattle.std.proofs.Common.{◌≡◌, refl, ap, sym, ◌∙◌, ℕ, zero, suc, ◌+◌, ◌%◌, ◌&&◌, Bool, true, false, cond, List, [], ◌∷◌, ◌++◌, append_assoc, append-nil, arith, Option, Some, None, Result, Ok, Err}
-use Rattle.std.specs.Prelude.{is_ok, find}
+use Rattle.std.proofs.Common.{◌≡◌, refl, ap, ◌∙◌, ℕ, zero, suc, ◌+◌, ◌%◌, ◌&&◌, Bool, cond, List, [], ◌∷◌, ◌++◌, append_assoc, append-nil, arith, Option, Some, None, Result, Ok, Err}
+use Rattle.std.specs.Prelude.{is_ok}
 use Rattle.p11_decode.specs.Table.{op_of}
 use Rattle.p11_decode.specs.declared.operand.Register.TheVariants.{Sp, Pc}
 use Rattle.p11_decode.specs.declared.operand.Size.TheVariants.{Word}
-use Rattle.p11_kt11.specs.Management.{management_after_begin_instruction}
 use Rattle.p11_psw.specs.Sources.{status_from_vector}
 use Rattle.p11_psw.specs.Status.{status_of, status_word}
 use Rattle.p11_psw.specs.Vectors.{vector_address}
@@ -17,7 +16,7 @@ use Rattle.p11_psw.specs.declared.vector.Vector.{Vector}
 use Rattle.p11_psw.specs.declared.vector.Vector.TheVariants.{BusError, Breakpoint}
 use Rattle.p11_dl11.specs.LineEvents.{line_after_turn}
 use Rattle.p11_dl11.specs.TransmitterEvents.{typed_in}
-use Rattle.p11_unibus.specs.Acts.{with_typed, bus_after_clock, bus_after_line, bus_after_disk, bus_after_turn, is_any_due}
+use Rattle.p11_unibus.specs.Acts.{with_typed, bus_after_clock, bus_after_line, bus_after_disk, bus_after_turn}
 use Rattle.p11_unibus.specs.Events.{bus_after_take}
 use Rattle.p11_unibus.specs.Requests.{bus_after_service, grant_of, granted, highest_request, row}
 use Rattle.p11_unibus.specs.State.{BusState}
@@ -29,8 +28,8 @@ use Rattle.p11_cpu.specs.ProcessorControl.{resumed, halted}
 use Rattle.p11_cpu.specs.Registers.{set_register_in, stack_pointer}
 use Rattle.p11_cpu.specs.Services.{entry_of, fatal_entry_of, fatal_of, push_in, service_of, woken}
 use Rattle.p11_cpu.specs.State.{HardwareState, State, hardware_of, with_hardware}
-use Rattle.p11_cpu.specs.Step.{change, gets}
-use Rattle.p11_cpu.specs.Turns.{after_trace, after_turns, completed, decoded_at_pc, devices_acted, ended, hardware_turn_of, instruction_of, instruction_run, marks_cleared, pc_taken, request_granted, served_or_run, trapped, traps_served, turn_of, yellow_zone_trap}
+use Rattle.p11_cpu.specs.Step.{change}
+use Rattle.p11_cpu.specs.Turns.{after_trace, after_turns, completed, decoded_at_pc, devices_acted, hardware_turn_of, instruction_of, instruction_run, marks_cleared, pc_taken, request_granted, served_or_run, traps_served, turn_of, yellow_zone_trap}
 use Rattle.p11_cpu.specs.Words.{minus}
 use Rattle.p11_records.proofs.TypedInstructions.{execute_blind, resumed_behind, halted_behind}
 use Rattle.p11_records.proofs.TypedSteps.{Any, Blind, Fine, Serves, Trap, behind, bus_behind, by_cases, then_blind, pure_blind, gets_blind, change_blind, either_behind, either_gives, read_in_blind, write_in_blind, read_blind, get_blind, step_up_blind}
