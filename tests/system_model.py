@@ -303,7 +303,8 @@ class Lines:
         if kind == 11:
             return f"cat {self.file()} | {one(['sort', 'wc', 'od', 'cat'])} {self.into()}"
         if kind == 14:
-            return f"grep {one(['e', 'a.*b', '^[^a-e]', '[st]*', '9$', 'x*y.', '.'])} {self.any_file()} {self.file()} {self.into()}"
+            # no $ before a blank, which the prompt is
+            return f"grep {one(['e', 'a.*b', '^[^a-e]', '[st]*', '$9', 'x*y.', '.'])} {self.any_file()} {self.file()} {self.into()}"
         if kind == 15:
             return f"primes {self.chance.randrange(500)} | grep {one(['7', '1.*3', '[0-9]'])} {self.into()}"
         if kind == 12:
