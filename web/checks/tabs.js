@@ -69,8 +69,17 @@ async function list({ page, native: { folder }, say }) {
   say('kept sessions are listed, renamed, exported, opened, and forgotten behind a question');
 }
 
-// Storage that is full is said, and stays said while the machine goes on, until a session begins that can be kept.
+// Storage that is full is said, and stays said while the machine goes on, until a session begins that can be kept. Where there is no room
+// for the pages of the memory alone, the record is kept all the same.
 async function full({ page, say }) {
+  await page.eval(`{ globalThis.put = IDBObjectStore.prototype.put; globalThis.refused = 0; IDBObjectStore.prototype.put = function (it) {
+    if (it.n === undefined) return put.call(this, it);
+    refused++;
+    throw new DOMException('x', 'QuotaExceededError'); }; 0; }`);
+  await attempt(page, 'deposit 5000 7');
+  await page.until("refused > 0 && app.store.kept(app.store.session?.id).then((it) => it?.lines.at(-1) === 'deposit 5000 7' && it.pages === null)");
+  assert(await page.eval("document.querySelector('#refused').hidden"), 'it is said that nothing is kept, and the record is');
+  await page.eval('{ IDBObjectStore.prototype.put = put; 0; }');
   const told = "document.querySelector('#refused').innerText.includes('keeps nothing more of this session (its storage is full)')";
   await page.eval("{ globalThis.put = IDBObjectStore.prototype.put; IDBObjectStore.prototype.put = () => { throw new DOMException('x', 'QuotaExceededError'); }; 0; }");
   await attempt(page, 'deposit 5000 1');
