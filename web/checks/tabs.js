@@ -93,4 +93,30 @@ async function full({ page, say }) {
   say('storage that is full is said, and stays said');
 }
 
-module.exports = { tabs, list, full };
+// What an earlier form of the page kept, which had no pages of the memory, goes on too.
+async function earlier({ page, url, say }) {
+  await page.navigate(`${url}tests/cases.html`);
+  await page.until("document.title === 'p11: sessions'");
+  await page.eval(`new Promise((done) => { indexedDB.deleteDatabase('p11').onsuccess = () => {
+    const request = indexedDB.open('p11', 1);
+    request.onupgradeneeded = () => {
+      request.result.createObjectStore('sessions', { keyPath: 'id', autoIncrement: true });
+      request.result.createObjectStore('lines', { keyPath: ['id', 'from'] });
+      request.result.createObjectStore('files', { keyPath: ['id', 'name'] });
+    };
+    request.onsuccess = () => {
+      const all = request.result.transaction(['sessions', 'lines'], 'readwrite');
+      all.objectStore('sessions').put({ id: 1, used: 1, kwords: 28, steps: 0, turns: 0, count: 1, bytes: 17 });
+      all.objectStore('lines').put({ id: 1, from: 0, lines: ['deposit 5000 123'] });
+      all.oncomplete = () => { request.result.close(); done(true); };
+    };
+  }; })`);
+  await page.goTo(url);
+  await shows(page, 'The session goes on');
+  await attempt(page, 'examine 5000');
+  await shows(page, 'EXAM 005000 000123');
+  assert.equal(await idOf(page), 1);
+  say('a session that an earlier form of the page kept goes on');
+}
+
+module.exports = { tabs, list, full, earlier };
