@@ -10,11 +10,12 @@ const { boots } = require('./boots.js');
 const { words } = require('./words.js');
 const { badFiles, trap, policy, lacking } = require('./bad.js');
 const { looks, names, keyboard, glass } = require('./looks.js');
-const { tabs, list, full } = require('./tabs.js');
+const { tabs, list, full, earlier } = require('./tabs.js');
 const { presses } = require('./presses.js');
 const { cases } = require('./cases.js');
 const { back, stopped, kills } = require('./back.js');
 const { cuts } = require('./cuts.js');
+const { random } = require('./random.js');
 const { packed, lesson } = require('./packed.js');
 const { plays, link, beside, pace, sizes, copies, single } = require('./ways.js');
 
@@ -35,8 +36,8 @@ async function checked(command, { made, p11, terminal, examples, casesFile }) {
   try {
     await run(plays, await run(evening));
     for (const next of [boots, presses, words, badFiles, keyboard, names, looks, glass, pace, sizes, copies]) await run(next);
-    for (const next of [link, beside, tabs, list, full, policy, lacking]) await run(next);
-    for (const next of [packed, back, stopped, kills, cuts]) await run(next);
+    for (const next of [link, beside, tabs, list, full, earlier, policy, lacking]) await run(next);
+    for (const next of [packed, back, stopped, kills, cuts, random]) await run(next);
     const told = await run(cases);
     await run(single);
     await run(lesson);

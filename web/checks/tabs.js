@@ -69,8 +69,17 @@ async function list({ page, native: { folder }, say }) {
   say('kept sessions are listed, renamed, exported, opened, and forgotten behind a question');
 }
 
-// Storage that is full is said, and stays said while the machine goes on, until a session begins that can be kept.
+// Storage that is full is said, and stays said while the machine goes on, until a session begins that can be kept. Where there is no room
+// for the pages of the memory alone, the record is kept all the same.
 async function full({ page, say }) {
+  await page.eval(`{ globalThis.put = IDBObjectStore.prototype.put; globalThis.refused = 0; IDBObjectStore.prototype.put = function (it) {
+    if (it.n === undefined) return put.call(this, it);
+    refused++;
+    throw new DOMException('x', 'QuotaExceededError'); }; 0; }`);
+  await attempt(page, 'deposit 5000 7');
+  await page.until("refused > 0 && app.store.kept(app.store.session?.id).then((it) => it?.lines.at(-1) === 'deposit 5000 7' && it.pages === null)");
+  assert(await page.eval("document.querySelector('#refused').hidden"), 'it is said that nothing is kept, and the record is');
+  await page.eval('{ IDBObjectStore.prototype.put = put; 0; }');
   const told = "document.querySelector('#refused').innerText.includes('keeps nothing more of this session (its storage is full)')";
   await page.eval("{ globalThis.put = IDBObjectStore.prototype.put; IDBObjectStore.prototype.put = () => { throw new DOMException('x', 'QuotaExceededError'); }; 0; }");
   await attempt(page, 'deposit 5000 1');
@@ -84,4 +93,30 @@ async function full({ page, say }) {
   say('storage that is full is said, and stays said');
 }
 
-module.exports = { tabs, list, full };
+// What an earlier form of the page kept, which had no pages of the memory, goes on too.
+async function earlier({ page, url, say }) {
+  await page.navigate(`${url}tests/cases.html`);
+  await page.until("document.title === 'p11: sessions'");
+  await page.eval(`new Promise((done) => { indexedDB.deleteDatabase('p11').onsuccess = () => {
+    const request = indexedDB.open('p11', 1);
+    request.onupgradeneeded = () => {
+      request.result.createObjectStore('sessions', { keyPath: 'id', autoIncrement: true });
+      request.result.createObjectStore('lines', { keyPath: ['id', 'from'] });
+      request.result.createObjectStore('files', { keyPath: ['id', 'name'] });
+    };
+    request.onsuccess = () => {
+      const all = request.result.transaction(['sessions', 'lines'], 'readwrite');
+      all.objectStore('sessions').put({ id: 1, used: 1, kwords: 28, steps: 0, turns: 0, count: 1, bytes: 17 });
+      all.objectStore('lines').put({ id: 1, from: 0, lines: ['deposit 5000 123'] });
+      all.oncomplete = () => { request.result.close(); done(true); };
+    };
+  }; })`);
+  await page.goTo(url);
+  await shows(page, 'The session goes on');
+  await attempt(page, 'examine 5000');
+  await shows(page, 'EXAM 005000 000123');
+  assert.equal(await idOf(page), 1);
+  say('a session that an earlier form of the page kept goes on');
+}
+
+module.exports = { tabs, list, full, earlier };

@@ -62,12 +62,13 @@ class Store {
 
   // Does something over all tables, behind what was asked for before; a refusal ends the keeping and is told, since the page
   // goes on without it.
-  change(work) {
-    this.last = this.last.then(() => this.attempt(work));
+  change(work, otherwise) {
+    this.last = this.last.then(() => this.attempt(work, otherwise));
     return this.last;
   }
 
-  async attempt(work) {
+  // Where it is refused something else may be done in its place.
+  async attempt(work, otherwise) {
     if (!this.db) return undefined;
     try {
       const all = this.db.transaction(TABLES, 'readwrite', { durability: 'relaxed' });
@@ -78,6 +79,7 @@ class Store {
       await ended;
       return result;
     } catch (error) {
+      if (otherwise) return this.attempt(otherwise);
       this.refuse(error);
       return undefined;
     }
@@ -119,28 +121,37 @@ class Store {
     for (const name of ['lines', 'files', 'pages']) table(name).delete(ofSession(id));
   }
 
-  // What the record has gained, and with it the pages that have changed: whether they are kept.
-  add({ from, lines, steps, turns, pages }) {
-    if (lines.length > 0 && !this.isAsked) {
+  // What the record has gained, and with it the pages that have changed: whether they are kept. Where there is no room for them, the
+  // pages of all sessions go, and the record is kept without.
+  add(gained) {
+    if (gained.lines.length > 0 && !this.isAsked) {
       this.isAsked = true;
       navigator.storage?.persist?.().catch(() => {});
     }
-    return this.change((table) => {
-      const { session } = this;
-      if (!session) return false;
-      Object.assign(session, { steps, turns, used: Date.now(), count: from + lines.length });
-      session.bytes += lines.reduce((sum, line) => sum + line.length + 1, 0);
-      if (lines.length > 0) table('lines').put({ id: session.id, from, lines });
-      table('sessions').put(session);
-      if (pages) this.addPages(table, session.id, pages);
-      return true;
-    });
+    const without = (table) => {
+      table('pages').clear();
+      return this.addLines(table, gained) && false;
+    };
+    return this.change((table) => this.addLines(table, gained) && this.addPages(table, this.session.id, gained.pages), gained.pages ? without : undefined);
   }
 
-  addPages(table, id, { head, isAll, rows }) {
-    if (isAll) table('pages').delete(ofSession(id));
-    table('pages').put({ id, n: HEAD, head });
-    for (const { n, bytes } of rows) table('pages').put({ id, n, bytes });
+  // Whether there is a session to which they can be added.
+  addLines(table, { from, lines, steps, turns }) {
+    const { session } = this, count = from + lines.length;
+    if (!session) return false;
+    if (count > session.count) session.bytes += lines.reduce((sum, line) => sum + line.length + 1, 0);
+    Object.assign(session, { steps, turns, used: Date.now(), count });
+    if (lines.length > 0) table('lines').put({ id: session.id, from, lines });
+    table('sessions').put(session);
+    return true;
+  }
+
+  addPages(table, id, pages) {
+    if (!pages) return false;
+    if (pages.isAll) table('pages').delete(ofSession(id));
+    table('pages').put({ id, n: HEAD, head: pages.head });
+    for (const { n, bytes } of pages.rows) table('pages').put({ id, n, bytes });
+    return true;
   }
 
   note(facts) {
