@@ -3,20 +3,24 @@ ghost use Rattle.std.specs.Prelude.{◌≡◌, IfOk, map, option_map, codes, fal
 ghost use Rattle.std.specs.String.{string_bytes};
 ghost use Rattle.clap.specs.Words.{app_of, found_of, rows_of, rule_of};
 ghost use Rattle.clap.specs.declared.builder.value_parser.ValueParser.TheVariants.{Unsigned};
-ghost use Rattle.p11_arguments.specs.CommandLine.{Asks, command_line, named_program, number_option, number_of, required_name, rows_in};
+ghost use Rattle.p11_arguments.specs.CommandLine.{Asks, command_line, named_program, number_option, text_option, flag_option, number_of, is_given, required_name, rows_in};
 
 use clap::builder::ValueParser;
 use clap::error::ErrorKind;
-use clap::{Arg, ArgMatches, Command, Error};
+use clap::{Arg, ArgAction, ArgMatches, Command, Error};
 use std::alloc::{AllocError, Global};
 
-/// What the words of a command line give: the numbers, where they are given, and the script's name.
+/// What the words of a command line give: the numbers and the folder, where they are given, and the script's name.
 #[derive(Drop)]
 pub struct Asked<'a> {
     /// Thousands of words of memory.
     pub memory: Option<u32>,
     /// Decoded words to keep.
     pub lines: Option<u32>,
+    /// The folder below which files are looked up.
+    pub files: Option<&'a str>,
+    /// Whether a save is answered, and writes nothing.
+    pub is_saveless: bool,
     /// The name of the script's file, or `-`.
     pub script: &'a str,
 }
@@ -65,6 +69,26 @@ fn option<'a>(alloc: Global, name: &'a str, value: &'a str, help: &'a str) -> Ar
         .help(help)
 }
 
+/// An option with the name of a folder.
+fn folder<'a>(alloc: Global, name: &'a str, help: &'a str) -> Arg<'a>
+    ensures { (rule_of result ≡ text_option name.entry.now) × (result.global ≡ false) }
+{
+    Arg::new(alloc, name)
+        .long(name)
+        .value_name("FOLDER")
+        .help(help)
+}
+
+/// An option that stands alone.
+fn flag<'a>(alloc: Global, name: &'a str, help: &'a str) -> Arg<'a>
+    ensures { (rule_of result ≡ flag_option name.entry.now) × (result.global ≡ false) }
+{
+    Arg::new(alloc, name)
+        .long(name)
+        .action(ArgAction::SetTrue)
+        .help(help)
+}
+
 /// The name of the script.
 fn script<'a>(alloc: Global) -> Arg<'a>
     ensures { (rule_of result ≡ required_name (codes "SCRIPT")) × (result.global ≡ false) }
@@ -99,7 +123,18 @@ fn command<'a>(alloc: Global) -> Result<Command<'a>, AllocError>
         "N",
         "Decoded words to keep: 0 to 4096 [default: 1024]",
     );
-    program(alloc).arg(memory)?.arg(lines)?.arg(script(alloc))
+    let files = folder(
+        alloc,
+        "files",
+        "Look up the files of lines below FOLDER, and no others",
+    );
+    let saveless = flag(alloc, "no-save", "Answer each save, and write nothing");
+    program(alloc)
+        .arg(memory)?
+        .arg(lines)?
+        .arg(files)?
+        .arg(saveless)?
+        .arg(script(alloc))
 }
 
 /// What clap answers, as the reason why no script is named.
@@ -137,6 +172,16 @@ fn number_of_text(text: Option<&str>) -> Result<Option<u32>, Unasked>
     }
 }
 
+/// Whether an option is given that stands alone.
+fn is_given(text: Option<&str>) -> bool
+    ensures { result ≡ is_given (option_map (λ t. t.now) text.entry) }
+{
+    match text {
+        Some(text) => text == "true",
+        None => false,
+    }
+}
+
 /// Reads the words of a command line, of which the first is the program's name.
 pub fn read_command_line<'a>(alloc: Global, words: &'a [String]) -> Result<Asked<'a>, Unasked>
     ensures { IfOk result (λ asked. Asks (rows_in (map string_bytes words.now)) asked) }
@@ -147,10 +192,14 @@ pub fn read_command_line<'a>(alloc: Global, words: &'a [String]) -> Result<Asked
     };
     let memory = number_of_text(matches.get_str("memory"))?;
     let lines = number_of_text(matches.get_str("lines"))?;
+    let files = matches.get_str("files");
+    let is_saveless = is_given(matches.get_str("no-save"));
     let script = matches.get_str("SCRIPT").unwrap_or("");
     Ok(Asked {
         memory,
         lines,
+        files,
+        is_saveless,
         script,
     })
 }

@@ -1,4 +1,4 @@
-//! The command line of a PDP-11/40: `p11 [--memory K] [--lines N] SCRIPT`, as it is read from its words.
+//! The command line of a PDP-11/40: `p11 [OPTION ..] SCRIPT`, as it is read from its words.
 #![tactic(auto)]
 
 mod arguments;

@@ -1,5 +1,6 @@
 -- What the host gives and takes.
 use Rattle.std.specs.Prelude.{Vec, ◌≡◌, ℕ, Bool, true, false, List, Option, Some, None, Result, Ok, Err, if◌then◌else◌}
+use Rattle.p11_lines.specs.declared.answer.Answer.{Answer}
 use Rattle.p11_lines.specs.declared.answer.Answer.TheVariants as answers
 use Rattle.p11_lines.specs.declared.fault.Fault.TheVariants.{StoreFault}
 use Rattle.p11_lines.specs.declared.line.Line.{Line}
@@ -27,6 +28,26 @@ file_name (lines.Mount drive name protect) = Some name
 file_name (lines.Load name) = Some name
 file_name (lines.Save drive name) = Some name
 file_name _ = None
+
+-- the drive of the pack whose file a line reads or writes
+unfoldable pub pack_drive : {A : Type 0} → Line A → Option ℕ
+pack_drive (lines.Mount drive name protect) = Some drive
+pack_drive (lines.Save drive name) = Some drive
+pack_drive _ = None
+
+abbrev pub drive_in : {A : Type 0} → Way A → Option ℕ
+drive_in (Fetching line text) = pack_drive line
+drive_in (Putting line image text is_agreed) = pack_drive line
+drive_in _ = None
+
+-- a line is done, and that isn't told yet
+abbrev pub is_ok_answer : {A : Type 0} → Answer A → Bool
+is_ok_answer answers.Done = true
+is_ok_answer _ = false
+
+abbrev pub is_done : {A : Type 0} → Way A → Bool
+is_done (Telling answer text note) = is_ok_answer answer
+is_done _ = false
 
 -- the name of the file that is wanted, or that the bytes are for
 abbrev pub wanted : {A : Type 0} → Way A → Option (List ℕ)

@@ -1,5 +1,5 @@
 -- Packs whose last state no file has.
-use Rattle.std.specs.Prelude.{ℕ, Bool, false, not, ◌&&◌, ◌||◌, nat_lt, List, [], ◌∷◌, length, slice_set, slice_index_or, Option, Some, None, if◌then◌else◌}
+use Rattle.std.specs.Prelude.{ℕ, Bool, false, not, ◌&&◌, ◌||◌, nat_lt, List, [], ◌∷◌, length, slice_set, slice_index_or, Option, Some, None, option_map, if◌then◌else◌}
 use Rattle.std.specs.Option.{option_map_or}
 use Rattle.std.specs.Str.{bytes_eq}
 use Rattle.p11_lines.specs.declared.line.Line.{Line}
@@ -19,6 +19,11 @@ is_unsaved_pack saved pack = nat_lt 0 (length pack.changed) && not (is_image (im
 unfoldable pub is_unsaved : State → List (Option (List ℕ)) → ℕ → Bool
 is_unsaved s saved drive =
     option_map_or (is_unsaved_pack (slice_index_or saved drive None)) (contents_of (drive_of s.bus.disk drive)) false
+
+-- the pack on a drive as it is now, where it has sectors that no file has
+unfoldable pub unsaved_image : State → List (Option (List ℕ)) → ℕ → Option (List ℕ)
+unsaved_image s saved drive =
+    if nat_lt drive 8 && is_unsaved s saved drive then option_map image_of (contents_of (drive_of s.bus.disk drive)) else None
 
 unfoldable pub any_unsaved : State → List (Option (List ℕ)) → List ℕ → Bool
 any_unsaved s saved [] = false

@@ -1,6 +1,6 @@
 // The files that lines wait for.
 ghost use Rattle.std.specs.Prelude.{◌≡◌, option_copied};
-ghost use Rattle.p11_console.specs.Files.{GivesLine, file_command, file_of, file_name, is_mount, way_missing};
+ghost use Rattle.p11_console.specs.Files.{GivesLine, file_command, file_of, file_name, pack_drive, is_mount, way_missing};
 ghost use Rattle.p11_console.specs.Tries.{refused};
 ghost use Rattle.p11_lines.specs.declared.answer.Answer.TheVariants as answers;
 ghost use Rattle.p11_panel.specs.Session.{fault_of};
@@ -22,6 +22,18 @@ pub(crate) fn name_of<A: Allocator>(line: &Line<A>) -> Option<&[u8]>
         Line::Mount { name, .. } => Some(name.as_slice()),
         Line::Load { name } => Some(name.as_slice()),
         Line::Save { name, .. } => Some(name.as_slice()),
+        _ => None,
+    }
+}
+
+/// The drive of the pack whose file a line reads or writes.
+#[tactic(auto, unfolding(crate::specs::Files::pack_drive))]
+pub(crate) fn drive_of<A: Allocator>(line: &Line<A>) -> Option<u32>
+    ensures { result ≡ pack_drive line.now }
+{
+    match line {
+        Line::Mount { drive, .. } => Some(*drive),
+        Line::Save { drive, .. } => Some(*drive),
         _ => None,
     }
 }

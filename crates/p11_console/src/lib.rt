@@ -2,8 +2,6 @@
 //!
 //! Nothing here reads or writes. `Console::keys` takes what a keyboard gives, `step` does one thing, and `screen` and `record`
 //! are what there is to write. A file is asked for by `Want::Fetch` and `Want::Put`.
-//!
-//! A law is open: that the record does it again.
 #![tactic(auto)]
 
 mod buffer;

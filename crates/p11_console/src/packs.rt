@@ -1,6 +1,6 @@
 // What each drive held when it was last saved, and which have sectors that no file has.
 ghost use Rattle.std.specs.Prelude.{◌≡◌, ◌<◌, None, Some, replicate, slice_index_or, slice_set, not, nat_lt, IfOk, option_copied};
-ghost use Rattle.p11_console.specs.Saved.{is_image, is_unsaved, any_unsaved, all_drives, saved_by};
+ghost use Rattle.p11_console.specs.Saved.{is_image, is_unsaved, unsaved_image, any_unsaved, all_drives, saved_by};
 
 use crate::text::Text;
 use p11_lines::{Answer, Bytes, Fault, Line, NoMemory};
@@ -152,6 +152,27 @@ fn is_unsaved<A: Allocator + Copy>(
         Answer::Image(image) => Ok(!is_image(image.as_slice(), saved.at(drive))),
         Answer::Refused(Fault::NoMemory) => Err(NoMemory),
         _ => Ok(false),
+    }
+}
+
+/// The image of the pack on a drive, where it has sectors that no file has. Nothing changes.
+#[tactic(auto, unfolding(crate::specs::Saved::unsaved_image, crate::specs::Saved::is_unsaved, p11_rk11::specs::State::drive_of))]
+pub(crate) fn unsaved_image<A: Allocator + Copy>(
+    alloc: A,
+    panel: &mut Panel<A>,
+    saved: &Packs<A>,
+    drive: u32,
+) -> Result<Option<Bytes<A>>, NoMemory>
+    ensures is { IfOk result (λ image. image ≡ unsaved_image panel.old saved.now drive) }
+    ensures same { panel.new ≡ panel.old }
+{
+    if drive >= 8 || !is_unsaved(alloc, panel, saved, drive)? {
+        return Ok(None);
+    }
+    match panel.act(alloc, &Command::Save { drive }) {
+        Answer::Image(image) => Ok(Some(image)),
+        Answer::Refused(Fault::NoMemory) => Err(NoMemory),
+        _ => Ok(None),
     }
 }
 

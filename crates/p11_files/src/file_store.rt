@@ -1,6 +1,6 @@
 // The store of files that the programs have: those of the system, whose names are paths from the working folder on.
 ghost use Rattle.p11_files.specs.Told.{TellsPut};
-ghost use Rattle.std.specs.Prelude.{◌≡◌, ◌+◌, ◌<◌, [], ◌∷◌, ◌++◌, true, false, Some, None, is_ok, IfErr, IsSome, OnOk};
+ghost use Rattle.std.specs.Prelude.{◌≡◌, ◌+◌, ◌<◌, [], ◌∷◌, ◌++◌, true, false, if◌then◌else◌, Some, None, is_ok, IsOk, IfErr, IsSome, OnOk};
 
 use crate::beneath::whole_folder;
 use crate::file_fault::FileFault;
@@ -26,6 +26,8 @@ pub struct FileStore<'a, L: Ledger> {
     takes_any: bool,
     /// The folder, with a slash behind it, whose files alone may be had.
     folder: Option<String>,
+    /// Whether a put writes nothing.
+    is_saveless: bool,
 }
 
 impl<'a, L: Ledger> FileStore<'a, L> {
@@ -45,6 +47,7 @@ impl<'a, L: Ledger> FileStore<'a, L> {
             fault: None,
             takes_any: false,
             folder: None,
+            is_saveless: false,
         }
     }
 
@@ -57,10 +60,21 @@ impl<'a, L: Ledger> FileStore<'a, L> {
         ensures count { self.new.refusals ≡ self.old.refusals }
         ensures calls { self.new.calls.made ≡ self.old.calls.made }
         ensures ok { OnOk result (IsSome self.new.folder) }
+        ensures saveless { self.new.is_saveless ≡ self.old.is_saveless }
     {
         let whole = whole_folder(self.rt, folder)?;
         self.folder = Some(whole);
         Ok(())
+    }
+
+    /// From then on a put is answered, and writes nothing.
+    pub fn save_nothing(&mut self)
+        ensures count { self.new.refusals ≡ self.old.refusals }
+        ensures calls { self.new.calls.made ≡ self.old.calls.made }
+        ensures folder { self.new.folder ≡ self.old.folder }
+        ensures saveless { self.new.is_saveless ≡ true }
+    {
+        self.is_saveless = true;
     }
 
     /// Says whether a fetch takes any file, as one that the user named: also one that isn't below the folder, and a pipe or a
@@ -69,6 +83,7 @@ impl<'a, L: Ledger> FileStore<'a, L> {
         ensures count { self.new.refusals ≡ self.old.refusals }
         ensures calls { self.new.calls.made ≡ self.old.calls.made }
         ensures folder { self.new.folder ≡ self.old.folder }
+        ensures saveless { self.new.is_saveless ≡ self.old.is_saveless }
         ensures any { self.new.takes_any ≡ takes_any }
     {
         self.takes_any = takes_any;
@@ -142,14 +157,21 @@ impl<'a, L: Ledger> FileStore<'a, L> {
         }
     }
 
-    /// Leaves bytes in a file of the system, and keeps why it can't be written.
+    /// Leaves bytes in a file of the system, and keeps why it can't be written. Where nothing is to be written this makes no put
+    /// of the system, and says OK.
     fn write(&mut self, name: &[u8], bytes: &[u8]) -> Result<(), FileFault>
         ensures count { self.new.refusals ≡ self.old.refusals }
         ensures calls { self.new.calls.made ≡ self.old.calls.made }
-        ensures puts { self.new.puts.made ≡ self.old.puts.made ++ is_ok result ∷ [] }
+        ensures puts { self.new.puts.made
+            ≡ (if self.old.is_saveless then self.old.puts.made else self.old.puts.made ++ is_ok result ∷ []) }
+        ensures saveless { self.old.is_saveless ≡ true → IsOk result }
         ensures ok { OnOk result (self.new.fault ≡ None) }
         ensures err { IfErr result (λ fault. self.new.fault ≡ Some fault) }
     {
+        if self.is_saveless {
+            self.fault = None;
+            return Ok(());
+        }
         match replace_file(self.rt, text_of(&self.folder), name, bytes) {
             Ok(()) => {
                 self.puts = self.puts.then(&true);
@@ -164,9 +186,12 @@ impl<'a, L: Ledger> FileStore<'a, L> {
         }
     }
 
-    /// Leaves bytes under a name: this says OK just where the system's put went well, and tells that call.
+    /// Leaves bytes under a name: this says OK just where the system's put went well, and tells that call. Where nothing is to
+    /// be written there is no such put, and this says OK.
     fn replace(&mut self, name: &[u8], bytes: &[u8]) -> Result<(), StoreError>
-        ensures puts { self.new.puts.made ≡ self.old.puts.made ++ is_ok result ∷ [] }
+        ensures puts { self.new.puts.made
+            ≡ (if self.old.is_saveless then self.old.puts.made else self.old.puts.made ++ is_ok result ∷ []) }
+        ensures saveless { self.old.is_saveless ≡ true → IsOk result }
         ensures ok { OnOk result (TellsPut name.now false self.old.calls.made self.new.calls.made
             × (self.new.refusals ≡ self.old.refusals)) }
         ensures err { IfErr result (λ error. (error ≡ StoreError.Refused)

@@ -6,7 +6,7 @@ use Rattle.p11_arguments.specs.declared.arguments.Unasked.{Unasked}
 use Rattle.p11_arguments.specs.declared.arguments.Unasked.TheVariants as reasons
 use Rattle.p11_panel.specs.declared.script.SessionFault.TheVariants.{Reading, Writing, TooLong}
 use Rattle.p11_run.specs.declared.ending.Cause.{Cause}
-use Rattle.p11_run.specs.declared.ending.Cause.TheVariants.{Done, Help, Usage, NotUtf8, BadSize, NoMemory, Session}
+use Rattle.p11_run.specs.declared.ending.Cause.TheVariants.{Done, Help, Usage, NotUtf8, BadSize, NoFolder, NoMemory, Session}
 
 -- the ending of a command line that names no script
 abbrev pub cause_of : Unasked → Cause
@@ -15,13 +15,14 @@ cause_of (reasons.Usage text) = Usage text
 cause_of reasons.BadNumber = BadSize
 cause_of reasons.NoMemory = NoMemory
 
--- 0: the end of the script, or help; 1: a fault of the session; 2: a command line that is refused; 3: no memory
+-- 0: the end of the script, or help; 1: a fault of the session, or no folder; 2: a command line that is refused; 3: no memory
 abbrev pub status_of : Cause → ℕ
 status_of Done = 0
 status_of (Help text) = 0
 status_of (Usage text) = 2
 status_of NotUtf8 = 2
 status_of BadSize = 2
+status_of NoFolder = 1
 status_of NoMemory = 3
 status_of (Session fault) = 1
 
@@ -31,6 +32,7 @@ text_of (Help text) = string_bytes text
 text_of (Usage text) = string_bytes text
 text_of NotUtf8 = codes "p11: arguments are not UTF-8\n"
 text_of BadSize = codes "? 15 BadSize\n"
+text_of NoFolder = codes "p11: the folder of --files isn't there\n"
 text_of NoMemory = codes "p11: no memory\n"
 text_of (Session Reading) = codes "p11: read fault\n"
 text_of (Session Writing) = codes "p11: write fault\n"
@@ -42,6 +44,7 @@ is_help (Help text) = true
 is_help (Usage text) = false
 is_help NotUtf8 = false
 is_help BadSize = false
+is_help NoFolder = false
 is_help NoMemory = false
 is_help (Session fault) = false
 
@@ -60,5 +63,6 @@ SaysHelp (Help text) old new = Appends old new (string_bytes text)
 SaysHelp (Usage text) old new = ⊤
 SaysHelp NotUtf8 old new = ⊤
 SaysHelp BadSize old new = ⊤
+SaysHelp NoFolder old new = ⊤
 SaysHelp NoMemory old new = ⊤
 SaysHelp (Session fault) old new = ⊤

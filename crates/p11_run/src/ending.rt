@@ -20,6 +20,8 @@ pub enum Cause {
     NotUtf8,
     /// No machine has the sizes that were asked for.
     BadSize,
+    /// The folder of the files isn't there.
+    NoFolder,
     /// There was no memory before the session began.
     NoMemory,
     /// The session ended before its script did.
@@ -37,6 +39,7 @@ pub fn ending(cause: &Cause) -> (u8, &str)
         Cause::Usage(text) => (2, text.as_str()),
         Cause::NotUtf8 => (2, "p11: arguments are not UTF-8\n"),
         Cause::BadSize => (2, "? 15 BadSize\n"),
+        Cause::NoFolder => (1, "p11: the folder of --files isn't there\n"),
         Cause::NoMemory => (3, "p11: no memory\n"),
         Cause::Session(SessionFault::Reading) => (1, "p11: read fault\n"),
         Cause::Session(SessionFault::Writing) => (1, "p11: write fault\n"),
@@ -62,7 +65,7 @@ pub fn ending_after(cause: &Cause, said: bool) -> (u8, &'static str)
         Cause::Done => (0, ""),
         Cause::Usage(_) | Cause::NotUtf8 | Cause::BadSize => (2, ""),
         Cause::NoMemory => (3, ""),
-        Cause::Session(_) => (1, ""),
+        Cause::NoFolder | Cause::Session(_) => (1, ""),
     }
 }
 

@@ -24,6 +24,7 @@ fn say_cause<W: Write, E: Write>(output: &mut W, errors: &mut E, cause: &Cause) 
         Cause::Usage(_) => say(errors, text),
         Cause::NotUtf8 => say(errors, text),
         Cause::BadSize => say(errors, text),
+        Cause::NoFolder => say(errors, text),
         Cause::NoMemory => say(errors, text),
         Cause::Session(_) => say(errors, text),
     }

@@ -1,7 +1,7 @@
 //! The program `p11`: a PDP-11/40 under an operator's script.
 //!
-//! `p11 [--memory K] [--lines N] SCRIPT` does the lines of the script, over the files that they name, and writes their
-//! answers to standard output.
+//! `p11 [OPTION ..] SCRIPT` does the lines of the script, over the files that they name, and writes their answers to standard
+//! output.
 #![tactic(auto)]
 
 ghost use Rattle.std.specs.Prelude.{◌≡◌, ◌<◌};
@@ -85,6 +85,14 @@ fn run_on<L: Ledger>(
     requires some { 0 < blank.parts }
 {
     let mut store = FileStore::<L>::new(rt, blank);
+    if let Some(folder) = launch.files {
+        if store.confine(folder).is_err() {
+            return Err(Cause::NoFolder);
+        }
+    }
+    if launch.is_saveless {
+        store.save_nothing();
+    }
     let mut script = ToldReader::new(ScriptReader::open(rt, launch)?);
     let mut output = ToldWriter::new(io::writer(rt));
     play_script(rt.alloc(), panel, &mut store, &mut script, &mut output)

@@ -4,14 +4,21 @@ use p11_files::FileStore;
 use p11_store::Store;
 use std::sync::ledger::Ledger;
 
-/// The files of the system, and the names of those that this dialogue may write over.
+/// The name of a file that has the pack of a drive.
+#[derive(Drop)]
+struct Image {
+    drive: u32,
+    name: Vec<u8>,
+}
+
+/// The files of the system, and those that this dialogue may write over unasked.
 #[derive(Drop)]
 pub(crate) struct Files<'a, L: Ledger> {
     rt: &'a HostRuntime,
     store: FileStore<'a, L>,
     /// The script with which the dialogue begins. It alone may be a pipe, or outside of the folder of `--files`.
     script: Option<&'a str>,
-    known: Vec<Vec<u8>>,
+    images: Vec<Image>,
 }
 
 impl<'a, L: Ledger> Files<'a, L> {
@@ -24,21 +31,16 @@ impl<'a, L: Ledger> Files<'a, L> {
             rt,
             store,
             script,
-            known: Vec::new(rt.alloc()),
+            images: Vec::new(rt.alloc()),
         }
     }
 
-    /// The bytes under a name. A pack's file may be written over from then on.
+    /// The bytes under a name.
     pub(crate) fn fetch(&mut self, name: &[u8], is_pack: bool) -> Result<Vec<u8>, Trouble> {
         let takes_any = !is_pack && self.is_script(name);
         self.store.take_any(takes_any);
         match self.store.fetch(self.rt.alloc(), name) {
-            Ok(bytes) => {
-                if is_pack {
-                    self.note(name);
-                }
-                Ok(bytes)
-            }
+            Ok(bytes) => Ok(bytes),
             Err(error) => Err(Trouble {
                 error,
                 reason: self.reason(),
@@ -46,19 +48,26 @@ impl<'a, L: Ledger> Files<'a, L> {
         }
     }
 
-    /// Leaves bytes under a name; where that isn't agreed not in place of a file that this dialogue doesn't know.
+    /// The pack of a drive is that of this file, which a save of the drive may write over from then on.
+    pub(crate) fn mounted(&mut self, drive: u32, name: &[u8]) {
+        self.images.retain(|image| image.drive != drive);
+        self.note(drive, name);
+    }
+
+    /// Leaves the pack of a drive under a name; where that isn't agreed not in place of a file that doesn't have it.
     pub(crate) fn put(
         &mut self,
+        drive: u32,
         name: &[u8],
         bytes: &[u8],
         may_replace: bool,
     ) -> Result<(), PutFault> {
-        if !may_replace && !self.knows(name) && self.store.has(name) {
+        if !may_replace && !self.has_pack(drive, name) && self.store.has(name) {
             return Err(PutFault::There);
         }
         match self.store.put(name, bytes) {
             Ok(()) => {
-                self.note(name);
+                self.note(drive, name);
                 Ok(())
             }
             Err(_) => Err(PutFault::Refused {
@@ -82,17 +91,16 @@ impl<'a, L: Ledger> Files<'a, L> {
         }
     }
 
-    /// Notes the name of a file that may be written over. Without memory it stays unknown.
-    fn note(&mut self, name: &[u8]) {
-        if self.knows(name) {
-            return;
-        }
-        if let Ok(copy) = Vec::from_slice(self.rt.alloc(), name) {
-            let _ = self.known.push(copy);
+    /// Notes the name of a file that has the pack of a drive, and no other drive's any more. Without memory it stays unknown.
+    fn note(&mut self, drive: u32, name: &[u8]) {
+        self.images.retain(|image| image.name.as_slice() != name);
+        if let Ok(name) = Vec::from_slice(self.rt.alloc(), name) {
+            let _ = self.images.push(Image { drive, name });
         }
     }
 
-    fn knows(&self, name: &[u8]) -> bool {
-        self.known.iter().any(|known| known.as_slice() == name)
+    /// Whether the pack of a drive is in the file of this name.
+    fn has_pack(&self, drive: u32, name: &[u8]) -> bool {
+        self.images.iter().any(|image| image.drive == drive && image.name.as_slice() == name)
     }
 }

@@ -4,10 +4,12 @@ use crate::files::Files;
 use crate::folder::names_of;
 use crate::journal::Journal;
 use crate::outlet::Outlet;
-use crate::window::window_in;
+use crate::rescue::Rescues;
+use crate::window::{Told, told_in};
 use p11_console::{Console, Want};
 use std::fs::File;
-use std::io::{Read, Stderr, Stdin, Stdout, Write};
+use std::io::{IsTerminal, Read, Stderr, Stdin, Stdout, Write};
+use std::os::unix::process::parent_id;
 use std::sync::ledger::Ledger;
 use std::thread;
 use std::time::{Clock, Duration};
@@ -21,6 +23,15 @@ const LOOK_MS: u64 = 5;
 /// Bytes of one read at most.
 const READ_BYTES: usize = 4096;
 
+/// Ctrl-E, which ends a run.
+const ESCAPE: u8 = 5;
+
+/// So many steps end a run and record it.
+const LAST_STEPS: u32 = 8;
+
+/// The drives.
+const DRIVES: u32 = 8;
+
 /// A console, and what is around it.
 #[derive(Drop)]
 pub(crate) struct Host<'a, L: Ledger> {
@@ -32,6 +43,7 @@ pub(crate) struct Host<'a, L: Ledger> {
     /// Whether a person types: then a read doesn't wait, and gives nothing where nothing is pressed.
     pub(crate) is_typed: bool,
     pub(crate) has_read_fault: bool,
+    pub(crate) has_write_fault: bool,
     pub(crate) screen: Outlet<Stdout>,
     pub(crate) errors: Outlet<Stderr>,
     pub(crate) files: Files<'a, L>,
@@ -40,28 +52,49 @@ pub(crate) struct Host<'a, L: Ledger> {
     pub(crate) top: Option<&'a str>,
     /// The history's file.
     pub(crate) past: Option<File>,
-    /// The file in which the launcher tells the terminal's size.
-    pub(crate) size: Option<String>,
+    /// The file in which the launcher tells the terminal's size, and a signal.
+    pub(crate) told: Option<String>,
+    /// The process that has started this one.
+    pub(crate) parent: u32,
     /// How often the terminal had been another program's when the line was shown last.
     pub(crate) returns: u32,
     /// When the keyboard was looked at, by the system's clock.
     pub(crate) looked: Duration,
+    pub(crate) rescues: Rescues<'a>,
+    /// Whether packs that no file has are kept.
+    pub(crate) keeps: bool,
+    /// How often they are; zero: only where the dialogue is cut off.
+    pub(crate) autosave: Duration,
+    /// When they were last, by the system's clock.
+    pub(crate) kept: Duration,
+    /// Once the dialogue was cut off: the steps that are left.
+    pub(crate) last_steps: Option<u32>,
 }
 
 impl<L: Ledger> Host<'_, L> {
-    /// Holds the dialogue to its end; how it ended.
+    /// Holds the dialogue to its end; how it ended. Where a person's was cut off, packs that no file has are kept.
     pub(crate) fn hold(&mut self) -> Result<Cause, Cause> {
+        let ended = self.converse();
+        if self.is_typed && (self.last_steps.is_some() || ended.is_err()) {
+            self.keep_packs(true);
+        } else if self.is_typed {
+            self.drop_kept();
+        }
+        ended
+    }
+
+    fn converse(&mut self) -> Result<Cause, Cause> {
         for _ in 0..u64::MAX {
+            if self.is_done() {
+                break;
+            }
             let want = self.console.step(self.rt.alloc(), self.slice);
             if want == Want::Step && self.is_early() {
                 continue;
             }
             self.write()?;
             match want {
-                Want::Step if self.is_typed => {
-                    self.read()?;
-                }
-                Want::Step => {}
+                Want::Step => self.look()?,
                 Want::Keys | Want::Idle => self.wait()?,
                 Want::Fetch => self.fetch(),
                 Want::Put => self.put(),
@@ -70,6 +103,7 @@ impl<L: Ledger> Host<'_, L> {
                 Want::End => break,
             }
         }
+        self.write()?;
         Ok(self.ending())
     }
 
@@ -77,10 +111,33 @@ impl<L: Ledger> Host<'_, L> {
     fn ending(&self) -> Cause {
         if self.has_read_fault {
             Cause::Reading
-        } else if self.journal.is_torn() {
+        } else if self.has_write_fault {
+            Cause::Writing
+        } else if self.journal.is_torn() || self.last_steps.is_some() {
             Cause::Done(1)
         } else {
             Cause::Done(self.console.status())
+        }
+    }
+
+    /// Whether the last step of a dialogue that was cut off is done. Else one more is.
+    fn is_done(&mut self) -> bool {
+        match self.last_steps {
+            None => false,
+            Some(0) => true,
+            Some(left) => {
+                self.last_steps = Some(left - 1);
+                false
+            }
+        }
+    }
+
+    /// Ends a run, and takes no key any more: the person is gone.
+    fn cut_off(&mut self) {
+        if self.last_steps.is_none() {
+            self.last_steps = Some(LAST_STEPS);
+            let _ = self.console.keys(&[ESCAPE]);
+            self.console.closed();
         }
     }
 
@@ -107,16 +164,38 @@ impl<L: Ledger> Host<'_, L> {
         }
         self.console.kept(count);
         let count = self.console.screen().len();
-        self.screen.write(self.rt.alloc(), self.console.screen())?;
+        let done = self.screen.write(self.rt.alloc(), self.console.screen());
         self.console.shown(count);
+        self.take_written(done)?;
         self.errors.write(self.rt.alloc(), self.console.errors())?;
         self.console.told();
         Ok(())
     }
 
+    /// Where a person's screen takes nothing any more, the person is gone.
+    fn take_written(&mut self, done: Result<(), Cause>) -> Result<(), Cause> {
+        if done.is_err() && self.is_typed {
+            self.has_write_fault = true;
+            self.cut_off();
+            return Ok(());
+        }
+        done
+    }
+
+    /// Looks at the keyboard of a person, at what the launcher tells, and at the clock.
+    fn look(&mut self) -> Result<(), Cause> {
+        self.keep_in_time();
+        if self.is_typed && self.last_steps.is_none() {
+            self.look_at_terminal();
+            self.read()?;
+        }
+        Ok(())
+    }
+
     /// Waits for keys: at a terminal for a moment. An ESC behind which nothing comes meanwhile stands alone.
     fn wait(&mut self) -> Result<(), Cause> {
-        self.look_at_window();
+        self.keep_in_time();
+        self.look_at_terminal();
         if !self.read()? {
             thread::sleep(self.rt, Duration::from_millis(PAUSE_MS));
             if !self.read()? {
@@ -135,39 +214,128 @@ impl<L: Ledger> Host<'_, L> {
             Ok(count) => self.console.keys(&bytes[..count])?,
             Err(_) => {
                 self.has_read_fault = true;
-                self.console.closed();
+                self.close();
             }
         }
         Ok(true)
     }
 
-    /// Tells the console how wide the terminal is, and that it was another program's.
-    fn look_at_window(&mut self) {
-        let Some(file) = &self.size else {
+    /// No key can be read any more.
+    fn close(&mut self) {
+        if self.is_typed {
+            self.cut_off();
+        } else {
+            self.console.closed();
+        }
+    }
+
+    /// Tells the console how wide the terminal is, and that it was another program's. A signal that the launcher was sent, and
+    /// a terminal or a launcher that is no more, cut the dialogue off.
+    fn look_at_terminal(&mut self) {
+        if self.is_typed && self.is_left() {
+            self.cut_off();
+        }
+        let Some(file) = &self.told else {
             return;
         };
-        if let Some(window) = window_in(self.rt, file.as_str()) {
-            self.console.resized(window.columns);
-            if window.returns != self.returns {
-                self.returns = window.returns;
-                self.console.redrawn();
+        match told_in(self.rt, file.as_str()) {
+            Some(Told::Window(window)) => {
+                self.console.resized(window.columns);
+                if window.returns != self.returns {
+                    self.returns = window.returns;
+                    self.console.redrawn();
+                }
             }
+            Some(Told::Over) => self.cut_off(),
+            None => {}
+        }
+    }
+
+    /// Whether the terminal or the process that started this one is no more.
+    fn is_left(&self) -> bool {
+        !self.input.is_terminal() || parent_id(self.rt.process()) != self.parent
+    }
+
+    /// Keeps packs that no file has, as often as that was asked for.
+    fn keep_in_time(&mut self) {
+        if self.autosave == Duration::ZERO {
+            return;
+        }
+        if let Ok(now) = self.rt.monotonic() {
+            if now.saturating_sub(self.kept) >= self.autosave {
+                self.kept = now;
+                self.keep_packs(false);
+            }
+        }
+    }
+
+    /// Keeps each pack that no file has; where, may be said.
+    fn keep_packs(&mut self, is_said: bool) {
+        if !self.keeps {
+            return;
+        }
+        for drive in 0..DRIVES {
+            match self.console.unsaved(self.rt.alloc(), drive) {
+                Ok(Some(image)) => self.keep(drive, image.as_slice(), is_said),
+                Ok(None) => self.rescues.drop_kept(drive),
+                Err(_) => self.say_lost(drive, "there was no memory"),
+            }
+        }
+    }
+
+    fn keep(&mut self, drive: u32, image: &[u8], is_said: bool) {
+        match self.rescues.keep(drive, image) {
+            Ok(file) if is_said => {
+                let _ = eprintln!(self.rt; "terminal: the pack on drive {drive} is kept in {file}");
+            }
+            Ok(_) => {}
+            Err(fault) => self.say_lost(drive, fault.text()),
+        }
+    }
+
+    fn say_lost(&self, drive: u32, reason: &str) {
+        let _ = eprintln!(self.rt; "terminal: the pack on drive {drive} can't be kept: {reason}");
+    }
+
+    /// Takes away the files in which packs were kept: the person knows of what isn't saved.
+    fn drop_kept(&mut self) {
+        for drive in 0..DRIVES {
+            self.rescues.drop_kept(drive);
         }
     }
 
     /// Gives the console the file that it wants.
     fn fetch(&mut self) {
-        if let Some(name) = self.console.name() {
-            let file = self.files.fetch(name, self.console.is_pack());
-            self.console.fetched(self.rt.alloc(), file);
+        let Some(name) = self.console.name() else {
+            return;
+        };
+        let is_pack = self.console.is_pack();
+        let drive = self.console.drive();
+        let copy = Vec::from_slice(self.rt.alloc(), name);
+        let file = self.files.fetch(name, is_pack);
+        self.console.fetched(self.rt.alloc(), file);
+        if let (Some(drive), Ok(name)) = (drive, copy) {
+            if is_pack && self.console.is_done() {
+                self.files.mounted(drive, name.as_slice());
+                self.rescues.mounted(drive, name.as_slice());
+            }
         }
     }
 
     /// Writes the file that the console wants written.
     fn put(&mut self) {
-        if let (Some(name), Some(image)) = (self.console.name(), self.console.image()) {
-            let done = self.files.put(name, image, self.console.may_replace());
-            self.console.put(self.rt.alloc(), done);
+        let (Some(drive), Some(name), Some(image)) = (
+            self.console.drive(),
+            self.console.name(),
+            self.console.image(),
+        ) else {
+            return;
+        };
+        let may_replace = self.console.may_replace();
+        let done = self.files.put(drive, name, image, may_replace);
+        self.console.put(self.rt.alloc(), done);
+        if self.console.is_done() {
+            self.rescues.drop_kept(drive);
         }
     }
 

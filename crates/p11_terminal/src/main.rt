@@ -15,6 +15,7 @@ mod journal;
 mod outlet;
 mod past;
 mod remark;
+mod rescue;
 mod settings;
 mod window;
 
@@ -24,12 +25,14 @@ use crate::host::Host;
 use crate::journal::Journal;
 use crate::outlet::Outlet;
 use crate::past::open_past;
+use crate::rescue::Rescues;
 use crate::settings::{Launch, settings};
 use p11_console::{Console, Manner, Settings};
 use p11_files::FileStore;
 use p11_panel::Panel;
 use std::io::IsTerminal;
 use std::marker::Brand;
+use std::os::unix::process::parent_id;
 use std::process::ExitCode;
 use std::sync::ledger::{Blank, Ledger};
 use std::time::Duration;
@@ -100,15 +103,22 @@ fn hold<L: Ledger>(rt: &HostRuntime, launch: &Launch<'_>, blank: Blank) -> Resul
         input,
         is_typed: manner == Manner::Typed,
         has_read_fault: false,
+        has_write_fault: false,
         screen: Outlet::new(rt.stdout(), launch.is_raw),
         errors: Outlet::new(rt.stderr(), launch.is_raw),
         files: Files::new(rt, store, launch.script),
         journal: Journal::open(rt, launch)?,
         top: launch.files,
         past,
-        size: env::var(rt, "P11_SIZE").ok(),
+        told: env::var(rt, "P11_SIZE").ok(),
+        parent: parent_id(rt.process()),
         returns: 0,
         looked: Duration::ZERO,
+        rescues: Rescues::new(rt, launch.files),
+        keeps: !launch.is_saveless,
+        autosave: Duration::from_mins(u64::from(launch.autosave)),
+        kept: Duration::ZERO,
+        last_steps: None,
     };
     host.hold()
 }

@@ -30,6 +30,8 @@ pub(crate) struct Launch<'a> {
     pub(crate) is_strict: bool,
     /// Whether `save` writes nothing.
     pub(crate) is_saveless: bool,
+    /// Minutes between two times at which packs that no file has are kept; 0: never.
+    pub(crate) autosave: u32,
     /// Whether all that is typed passes to the terminal.
     pub(crate) is_raw: bool,
     pub(crate) script: Option<&'a str>,
@@ -74,7 +76,7 @@ struct Choice {
 }
 
 /// The options, in the order in which the help shows them.
-static CHOICES: [Choice; 11] = [
+static CHOICES: [Choice; 12] = [
     Choice {
         name: "memory",
         value: Value::Number("K"),
@@ -116,6 +118,12 @@ static CHOICES: [Choice; 11] = [
         value: Value::Nothing,
         beside: Beside::Any,
         help: "Answer each save, and write nothing; the end says what it would have been",
+    },
+    Choice {
+        name: "autosave",
+        value: Value::Number("N"),
+        beside: Beside::Never("no-save"),
+        help: "Every N minutes keep packs that no file has in NAME.rescue",
     },
     Choice {
         name: "raw",
@@ -218,6 +226,7 @@ pub(crate) fn settings<'a>(alloc: Global, words: &'a [String]) -> Result<Launch<
     let memory = number_or(matches.get_str("memory"), MEMORY)?;
     let lines = number_or(matches.get_str("lines"), LINES)?;
     let slice = number_or(matches.get_str("slice"), SLICE)?;
+    let autosave = number_or(matches.get_str("autosave"), 0)?;
     if slice == 0 || slice > MOST_TURNS {
         return Err(Cause::BadSlice);
     }
@@ -236,6 +245,7 @@ pub(crate) fn settings<'a>(alloc: Global, words: &'a [String]) -> Result<Launch<
         is_batch: matches.get_flag("batch"),
         is_strict: matches.get_flag("strict"),
         is_saveless: matches.get_flag("no-save"),
+        autosave,
         is_raw: matches.get_flag("raw"),
         script: matches.get_str("SCRIPT"),
     })

@@ -1,13 +1,15 @@
 // What the host gives: files, and that one is written.
-ghost use Rattle.std.specs.Prelude.{◌≡◌, true, option_copied};
-ghost use Rattle.p11_console.specs.Files.{Gives, Takes, TakesPut, file_of, wanted, image_in, may_replace, is_pack, way_missing};
+ghost use Rattle.std.specs.Prelude.{◌≡◌, true, option_copied, IfOk};
+ghost use Rattle.p11_console.specs.Files.{Gives, Takes, TakesPut, file_of, wanted, image_in, drive_in, is_done, is_ok_answer, may_replace, is_pack, way_missing};
 ghost use Rattle.p11_console.specs.Manner.{is_batch};
 ghost use Rattle.p11_console.specs.Said.{Says};
+ghost use Rattle.p11_console.specs.Saved.{unsaved_image};
 
 use super::Console;
 use crate::buffer::Buffer;
-use crate::files::{file_in, give_line, is_mount, name_of, way_missing};
+use crate::files::{drive_of, file_in, give_line, is_mount, name_of, way_missing};
 use crate::note::Note;
+use crate::packs::unsaved_image;
 use crate::reasons::note_of_file;
 use crate::scripts::Script;
 use crate::settings::is_batch;
@@ -15,7 +17,7 @@ use crate::text::Text;
 use crate::tries::refused;
 use crate::trouble::{PutFault, Trouble};
 use crate::way::Way;
-use p11_lines::{Answer, Bytes, Fault, Line};
+use p11_lines::{Answer, Bytes, Fault, Line, NoMemory};
 use std::alloc::Allocator;
 
 impl<A: Allocator + Copy> Console<A> {
@@ -41,6 +43,35 @@ impl<A: Allocator + Copy> Console<A> {
         }
     }
 
+    /// The drive of the pack whose file is wanted or to be written.
+    pub fn drive(&self) -> Option<u32>
+        ensures { result ≡ drive_in self.now.way }
+    {
+        match self.way.get() {
+            Way::Fetching { line, .. } => drive_of(line),
+            Way::Putting { line, .. } => drive_of(line),
+            _ => None,
+        }
+    }
+
+    /// Whether a line is done, as a MOUNT is once its file was given, and that isn't told yet.
+    pub fn is_done(&self) -> bool
+        ensures { result ≡ is_done self.now.way }
+    {
+        match self.way.get() {
+            Way::Telling { answer, .. } => is_ok(answer),
+            _ => false,
+        }
+    }
+
+    /// The image of the pack on a drive as it is now, where it has sectors that no file has. Nothing changes.
+    pub fn unsaved(&mut self, alloc: A, drive: u32) -> Result<Option<Bytes<A>>, NoMemory>
+        ensures image { IfOk result (λ image. image ≡ unsaved_image self.old.machine self.old.saved drive) }
+        ensures same { self.new ≡ self.old }
+    {
+        unsaved_image(alloc, &mut self.panel, &self.saved, drive)
+    }
+
     /// Whether a file of that name which is there may be written over.
     pub fn may_replace(&self) -> bool
         ensures { result ≡ may_replace self.now.way }
@@ -51,7 +82,7 @@ impl<A: Allocator + Copy> Console<A> {
         }
     }
 
-    /// Whether the file that is wanted is a pack's, which a `save` may write over unasked.
+    /// Whether the file that is wanted is a pack's, which a `save` of its drive may write over unasked.
     pub fn is_pack(&self) -> bool
         ensures { result ≡ is_pack self.now.way }
     {
@@ -168,5 +199,15 @@ impl<A: Allocator + Copy> Console<A> {
         said.add(file_in(line));
         said.add(b" is there: write over it (y, or another key)? ");
         self.screen.say(said.as_slice());
+    }
+}
+
+/// Whether an answer is OK.
+fn is_ok<A: Allocator>(answer: &Answer<A>) -> bool
+    ensures { result ≡ is_ok_answer answer.now }
+{
+    match answer {
+        Answer::Done => true,
+        _ => false,
     }
 }
