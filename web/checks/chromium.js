@@ -136,7 +136,7 @@ class ChromiumPage extends Page {
     };
   }
 
-  // The processes of the browser are a group of their own.
+  // Of a browser whose profile is kept: its processes are a group of their own.
   async kill() {
     process.kill(-this.child.pid, 'SIGKILL');
     if (this.child.signalCode === null) await new Promise((done) => { this.child.once('exit', done); });
@@ -150,9 +150,10 @@ class ChromiumPage extends Page {
   }
 }
 
-async function openChromium(command, { downloads, home = fs.mkdtempSync(path.join(os.tmpdir(), 'p11-browser-')) }) {
+async function openChromium(command, { downloads, home: kept }) {
+  const home = kept ?? fs.mkdtempSync(path.join(os.tmpdir(), 'p11-browser-'));
   const words = [...SWITCHES, '--remote-debugging-pipe', `--user-data-dir=${home}`, `--window-size=${SIZE}`, 'about:blank'];
-  const child = spawn(command, words, { stdio: ['ignore', 'ignore', 'ignore', 'pipe', 'pipe'], detached: true });
+  const child = spawn(command, words, { stdio: ['ignore', 'ignore', 'ignore', 'pipe', 'pipe'], detached: kept !== undefined });
   const page = new ChromiumPage(child, home);
   page.product = `Chromium ${/[\d.]+/.exec((await page.send('Browser.getVersion')).product)[0]}`;
   await page.send('Browser.grantPermissions', { permissions: ['clipboardReadWrite', 'clipboardSanitizedWrite'] });

@@ -137,7 +137,7 @@ class FirefoxPage extends Page {
     return told;
   }
 
-  // The processes of the browser are a group of their own.
+  // Of a browser whose profile is kept: its processes are a group of their own.
   async kill() {
     process.kill(-this.child.pid, 'SIGKILL');
     if (this.child.signalCode === null) await new Promise((done) => { this.child.once('exit', done); });
@@ -163,10 +163,11 @@ function addressOf(child) {
   });
 }
 
-async function openFirefox(command, { downloads, home = fs.mkdtempSync(path.join(os.tmpdir(), 'p11-browser-')) }) {
+async function openFirefox(command, { downloads, home: kept }) {
+  const home = kept ?? fs.mkdtempSync(path.join(os.tmpdir(), 'p11-browser-'));
   fs.writeFileSync(path.join(home, 'user.js'), preferences(downloads));
   const words = ['--headless', '--no-remote', '--profile', home, '--remote-debugging-port', '0', 'about:blank'];
-  const child = spawn(command, words, { stdio: ['ignore', 'ignore', 'pipe'], detached: true });
+  const child = spawn(command, words, { stdio: ['ignore', 'ignore', 'pipe'], detached: kept !== undefined });
   const Socket = globalThis.WebSocket ?? require('ws'), socket = new Socket(`${await addressOf(child)}/session`);
   const page = new FirefoxPage(child, home, socket);
   await new Promise((done, fail) => Object.assign(socket, { onopen: done, onerror: fail }));
