@@ -1,4 +1,4 @@
--- Lemmas on what commands come to, on runs and their slices, on the lines of a record, and on a dialogue.
+-- Lemmas on what commands come to, on runs and their slices, on lines and scripts, and on a dialogue.
 pub mod OutcomeLemmas
 pub mod RunLemmas
 pub mod TypedSteps
@@ -6,10 +6,15 @@ pub mod TypedInstructions
 pub mod TypedTurns
 pub mod TypedCommands
 pub mod MergedLemmas
-pub mod RecordLemmas
 pub mod ScriptLemmas
+pub mod LinesFit
+pub mod ShortLines
+pub mod RecordLemmas
 pub mod UnderWay
 pub mod LinesRecorded
+pub mod KeysGiven
 pub mod RunsRecorded
-pub mod LinesFit
+pub mod WaitingKeys
+pub mod StepsRecorded
+pub mod FilesRecorded
 pub mod DialogueLemmas

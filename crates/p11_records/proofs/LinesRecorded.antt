@@ -25,12 +25,13 @@ use Rattle.p11_console.specs.declared.settings.Trying.{Trying}
 use Rattle.p11_console.specs.declared.way.Way.{Way}
 use Rattle.p11_console.specs.declared.way.Way.TheVariants as ways
 use Rattle.p11_records.specs.Dialogue.{typed_on}
-use Rattle.p11_records.proofs.LinesFit.{IsSmall, few_deposited, few_keys, line_fits}
+use Rattle.p11_records.proofs.LinesFit.{line_fits}
+use Rattle.p11_records.proofs.ShortLines.{IsSmall, few_deposited, few_keys}
 use Rattle.p11_records.proofs.OutcomeLemmas.{Answers, refused_leaves, runs, save_leaves}
 use Rattle.p11_records.proofs.RecordLemmas.{Again}
 use Rattle.p11_records.proofs.RunLemmas.{refused_run}
 use Rattle.p11_records.proofs.TypedCommands.{run_leaves_none, step_stays}
-use Rattle.p11_records.proofs.UnderWay.{Holds, IsFetching, goes, line_holds, plain_holds, run_holds, told_holds}
+use Rattle.p11_records.proofs.UnderWay.{Holds, IsFetching, goes, line_holds, more_none, plain_holds, run_holds, told_holds}
 
 -- what holds once something is brought under way
 abbrev pub Brings : {A : Type 0} → Way A → List ℕ → List ℕ → State → StoreState → SessionState → Type 0
@@ -93,16 +94,13 @@ run_if {A} false line until_idle n way text typed machine machine' store t fits 
 waits : {A : Type 0} (line : Line A) (way : Way A) (text typed : List ℕ) (machine machine' : State) (store : StoreState) (t : SessionState) → Brings (ways.Fetching line (ended line)) text typed machine store t → (way ≡ ways.Fetching line (ended line)) × (machine' ≡ machine) → Brings way text typed machine' store t
 waits line way text typed machine machine' store t h e = is_way (ways.Fetching line (ended line)) way text typed machine machine' store t e.0 e.1 h
 
-nothing_more : (A : Type 0) (text typed : List ℕ) (s t : SessionState) → Again A text typed s t → Again A text (typed ++ []) s t
-nothing_more A text typed s t done = subst (λ (x : List ℕ). Again A text x s t) (sym (append-nil typed)) done
-
 image_saved : {A : Type 0} (is_saveless is_agreed : Bool) (drive : ℕ) (name image text typed : List ℕ) (machine : State) (store : StoreState) (t : SessionState) → FitsGrammar {A = A} (lines.Save drive name) → machine.bus.typed ≡ [] → CommandStep {A = A} machine (commands.Save drive) (answers.Image image) machine → Again A text typed (with_store machine store) t
     → Brings {A = A} (if is_saveless then ways.Telling answers.Done [] tt else ways.Putting (lines.Save drive name) image (ended {A = A} (lines.Save drive name)) is_agreed) text typed machine store t
 unfolding typed_in
 image_saved {A} true is_agreed drive name image text typed machine store t fits clean step done =
-    record { clean = clean; stands = subst (λ (x : List ℕ). Again A x (typed ++ []) (with_store machine store) t) (sym (append-nil text)) (nothing_more A text typed (with_store machine store) t done) }
+    record { clean = clean; stands = subst (λ (x : List ℕ). Again A x (typed ++ []) (with_store machine store) t) (sym (append-nil text)) (more_none A text typed (with_store machine store) t done) }
 image_saved {A} false is_agreed drive name image text typed machine store t fits clean step done =
-    record { clean = clean; stands = (nothing_more A text typed (with_store machine store) t done, refl, step, fits) }
+    record { clean = clean; stands = (more_none A text typed (with_store machine store) t done, refl, step, fits) }
 
 -- SAVE: the image waits for its file, and any other answer is told
 saved_as : {A : Type 0} (how : Trying) (drive : ℕ) (name : List ℕ) (answer : Answer A) (text typed : List ℕ) (machine machine' : State) (store : StoreState) (t : SessionState) → FitsGrammar {A = A} (lines.Save drive name) → machine' ≡ machine → machine'.bus.typed ≡ [] → CommandStep machine (commands.Save drive) answer machine' → Again A text typed (with_store machine store) t
@@ -123,7 +121,7 @@ saves {A} how drive name way text typed machine machine' store t fits clean done
     (saved_as {A = A} how drive name answer text typed machine machine' store t fits (save_leaves drive machine answer machine' step) (step_stays (commands.Save drive) answer machine machine' refl step ∙ clean) step done)
 
 fetches : {A : Type 0} (line : Line A) (text typed : List ℕ) (machine : State) (store : StoreState) (t : SessionState) → machine.bus.typed ≡ [] → Again A text typed (with_store machine store) t → IsFetching line → FitsGrammar line → Brings (ways.Fetching line (ended line)) text typed machine store t
-fetches {A} line text typed machine store t clean done fetching fits = record { clean = clean; stands = (nothing_more A text typed (with_store machine store) t done, refl, fetching, fits) }
+fetches {A} line text typed machine store t clean done fetching fits = record { clean = clean; stands = (more_none A text typed (with_store machine store) t done, refl, fetching, fits) }
 
 line_tried : {A : Type 0} (how : Trying) (line : Line A) (way : Way A) (text typed : List ℕ) (machine machine' : State) (store : StoreState) (t : SessionState) → FitsGrammar line → machine.bus.typed ≡ [] → Again A text typed (with_store machine store) t → TriesLine how line machine way machine' → Brings way text typed machine' store t
 unfolding TriesLine TriesRun Obeys command_of

@@ -1,7 +1,6 @@
 -- Slices of a run are one run, if none of them but the last halts.
-use Rattle.std.proofs.Common.{◌≡◌, ℕ, ◌+◌, ◌-◌, ◌<◌, ◌≤◌, Bool, true, false, ◌&&◌, nat_lt, ◌==◌, if◌then◌else◌, List, [], ◌++◌, Option, Some, None, refl, ap, subst, sym, ◌∙◌, arith, inl, inr}
+use Rattle.std.proofs.Common.{◌≡◌, ℕ, ◌+◌, ◌-◌, ◌<◌, ◌≤◌, Bool, true, false, ◌&&◌, nat_lt, if◌then◌else◌, List, [], ◌++◌, Option, Some, None, refl, ap, subst, sym, ◌∙◌, arith, inl, inr}
 use Rattle.std.proofs.lemmas.Bool.{cases_lt}
-use Rattle.std.proofs.lemmas.Bool.Decides.{nat_tests}
 use Rattle.p11_lines.specs.declared.answer.Answer.{Answer}
 use Rattle.p11_lines.specs.declared.answer.Answer.TheVariants as answers
 use Rattle.p11_lines.specs.declared.answer.StopReason.{StopReason}
@@ -17,7 +16,7 @@ use Rattle.p11_panel.specs.Commands.{CommandStep}
 use Rattle.p11_panel.specs.Runs.{step_fault, last_halted, turns_made, reason_of, whole_run}
 use Rattle.p11_panel.proofs.RunLemmas.{turns_after}
 use Rattle.p11_records.proofs.OutcomeLemmas.{no_stop}
-use Rattle.p11_records.proofs.RunLemmas.{Made, as_step, by_fault, halted_after, ran_on, refuses, tests_of, within}
+use Rattle.p11_records.proofs.RunLemmas.{Made, as_step, by_fault, halted_after, may_run, ran_on, within, within_limits}
 use Rattle.p11_records.proofs.TypedTurns.{typed_before, turns_behind, taken_and_back, turns_count}
 
 -- So many turns are made since a state, of which none but the last may have halted. These characters were typed in them,
@@ -27,7 +26,7 @@ pub record Merged (made : ℕ) (typed : List ℕ) (s s' : State) : Type 0 where
   pub text : (after_turns made s).bus.typed ≡ typed
   pub ran : (j : ℕ) → j < made → last_halted j s ≡ false
   pub few : made ≤ 100000000
-  pub early : 0 < made → made + s.turns ≤ 0x4000_0000_0000_0000
+  pub early : 0 < made → s.turns + made ≤ 0x4000_0000_0000_0000
 
 taken_none : (s : State) → s.bus.typed ≡ [] → s ≡ take_typed_of s
 unfolding take_typed_of bus_after_take
@@ -55,22 +54,6 @@ take_behind earlier s = refl
 take_turns : (s : State) → (take_typed_of s).turns ≡ s.turns
 unfolding take_typed_of
 take_turns s = refl
-
--- what a run needs that is asked for so many turns
-not_late : (n : ℕ) (s : State) → step_fault n s ≡ None → s.turns + n ≤ 0x4000_0000_0000_0000
-unfolding step_fault
-not_late n s free =
-    let t = tests_of (n == 0) (nat_lt 100000000 n) (nat_lt 0x4000_0000_0000_0000 (s.turns + n)) (refuses _ _ free) in
-    let late : nat_lt 0x4000_0000_0000_0000 (s.turns + n) ≡ false = t.1 in
-    grind (arith, nat_tests, late)
-
-allowed : (k : ℕ) (s : State) → 0 < k → k ≤ 100000000 → k + s.turns ≤ 0x4000_0000_0000_0000 → step_fault k s ≡ None
-unfolding step_fault
-allowed k s some few early =
-    let none : (k == 0) ≡ false = grind (arith, nat_tests, some) in
-    let most : nat_lt 100000000 k ≡ false = grind (arith, nat_tests, few) in
-    let late : nat_lt 0x4000_0000_0000_0000 (s.turns + k) ≡ false = grind (arith, nat_tests, early) in
-    rw (none, most, late) refl
 
 module _ (made : ℕ) (typed : List ℕ) (s s' : State) (first : Merged made typed s s') where
   -- the machine before its characters were taken
@@ -102,13 +85,13 @@ module _ (made : ℕ) (typed : List ℕ) (s s' : State) (first : Merged made typ
   pub merged_more : (asked : Bool) (n k : ℕ) (typed2 : List ℕ) (pc : ℕ) (s'' : State) → last_halted made s ≡ false → made + n ≤ 100000000 → Made asked n k typed2 pc s' s'' → Merged (made + k) (typed ++ typed2) s s''
   merged_more asked n k typed2 pc s'' on few next =
       let most : k ≤ n = omega (arith, next.made, within asked n s') in
-      let late = not_late n s' next.free in
+      let limits = within_limits n s' next.free in
       record {
         state = next.state ∙ sym (take_behind typed (after_turns k s')) ∙ ap take_typed_of (sym (further k));
         text = ap (λ (x : State). x.bus.typed) (further k) ∙ ap (λ (t : List ℕ). typed ++ t) next.text;
         ran = none_halts asked n k typed2 pc s'' on next;
         few = omega (arith, few, most);
-        early = λ some. omega (arith, late, most, turns_then);
+        early = λ some. omega (arith, limits.1, most, turns_then);
       }
 
   pub same_halts : last_halted made s ≡ false → (k : ℕ) → last_halted k s' ≡ false → last_halted (made + k) s ≡ false
@@ -117,7 +100,7 @@ module _ (made : ℕ) (typed : List ℕ) (s s' : State) (first : Merged made typ
 -- the run is a step of its turns
 pub merged_steps : (A : Type 0) (made : ℕ) (typed : List ℕ) (s s' : State) → 0 < made → Merged made typed s s' → (other : StopReason) × CommandStep {A = A} s (commands.Step made) (answers.Stop typed other made (after_turns made s).processor.registers.pc) s'
 merged_steps A made typed s s' some run =
-    as_step A made typed (after_turns made s).processor.registers.pc s s' (allowed made s some run.few (run.early some)) run.ran run.state run.text refl
+    as_step A made typed (after_turns made s).processor.registers.pc s s' (may_run made s some run.few (run.early some)) run.ran run.state run.text refl
 
 -- no turn was made
 pub still_there : (typed : List ℕ) (s s' : State) → s.bus.typed ≡ [] → Merged 0 typed s s' → (s' ≡ s) × (typed ≡ [])

@@ -19,7 +19,7 @@ use Rattle.p11_store.specs.declared.store.StoreError.{StoreError}
 use Rattle.p11_store.specs.declared.store.StoreError.TheVariants as errors
 use Rattle.p11_console.specs.Record.{ended, run_text}
 use Rattle.p11_console.specs.Runs.{typed_in}
-use Rattle.p11_records.specs.Again.{Alike, AreAsked, IsOfScript, Obey}
+use Rattle.p11_records.specs.Again.{Alike, AreAsked, IsOfScript}
 use Rattle.p11_records.proofs.OutcomeLemmas.{Answers}
 use Rattle.p11_records.proofs.ScriptLemmas.{asked as lines_asked}
 
@@ -114,6 +114,11 @@ failed name errors.Refused s s' h = ap (λ (x : StoreState). x.files) h.1
 failed name errors.NoMemory s s' h = ap (λ (x : StoreState). x.files) h.1
 
 -- LINES THAT DO AGAIN WHAT WAS DONE
+
+-- lines with their answers, one after another
+pub Obey : {A : Type 0} → List (Line A × Answer A) → SessionState → SessionState → Type 0
+Obey [] s s' = s' ≡ s
+Obey (done ∷ others) s s'' = (s' : SessionState) × Obeys done.0 s done.1 s' × Obey others s' s''
 
 -- they are lines of a script
 abbrev pub AreOfScript : {A : Type 0} → List (Line A × Answer A) → Type 0

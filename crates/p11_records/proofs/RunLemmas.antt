@@ -91,28 +91,37 @@ step_of k s ran =
 
 -- STEP IS ALLOWED
 
-pub refuses : {F : Type 0} (test : Bool) (f : F) → (if test then Some f else None) ≡ None → test ≡ false
+refuses : {F : Type 0} (test : Bool) (f : F) → (if test then Some f else None) ≡ None → test ≡ false
 refuses true f e = cc
 refuses false f e = refl
 
-pub tests_of : (none most late : Bool) → (none || most || late) ≡ false → (most ≡ false) × (late ≡ false)
+tests_of : (none most late : Bool) → (none || most || late) ≡ false → (most ≡ false) × (late ≡ false)
 tests_of true most late e = cc
 tests_of false true late e = cc
 tests_of false false true e = cc
 tests_of false false false e = (refl, refl)
 
-not_above : (m k n : ℕ) → k ≤ n → nat_lt m n ≡ false → nat_lt m k ≡ false
-not_above m k n h e = grind (arith, nat_tests, h, e)
+-- a run that is asked for is of so many turns at most, and isn't too late
+pub within_limits : (n : ℕ) (s : State) → step_fault n s ≡ None → (n ≤ 100000000) × (s.turns + n ≤ 0x4000_0000_0000_0000)
+unfolding step_fault
+within_limits n s free =
+    let t = tests_of (n == 0) (nat_lt 100000000 n) (nat_lt 0x4000_0000_0000_0000 (s.turns + n)) (refuses _ _ free) in
+    let most : nat_lt 100000000 n ≡ false = t.0 in
+    let late : nat_lt 0x4000_0000_0000_0000 (s.turns + n) ≡ false = t.1 in
+    (grind (arith, nat_tests, most), grind (arith, nat_tests, late))
+
+pub may_run : (k : ℕ) (s : State) → 0 < k → k ≤ 100000000 → s.turns + k ≤ 0x4000_0000_0000_0000 → step_fault k s ≡ None
+unfolding step_fault
+may_run k s some few early =
+    let none : (k == 0) ≡ false = grind (arith, nat_tests, some) in
+    let most : nat_lt 100000000 k ≡ false = grind (arith, nat_tests, few) in
+    let late : nat_lt 0x4000_0000_0000_0000 (s.turns + k) ≡ false = grind (arith, nat_tests, early) in
+    rw (none, most, late) refl
 
 allowed : (k n : ℕ) (s : State) → 0 < k → k ≤ n → step_fault n s ≡ None → step_fault k s ≡ None
-unfolding step_fault
 allowed k n s some few e =
-    let t : (nat_lt 100000000 n ≡ false) × (nat_lt 0x4000_0000_0000_0000 (s.turns + n) ≡ false) =
-    tests_of (n == 0) (nat_lt 100000000 n) (nat_lt 0x4000_0000_0000_0000 (s.turns + n)) (refuses _ _ e) in
-    let none : (k == 0) ≡ false = grind (arith, nat_tests, some) in
-    let most : nat_lt 100000000 k ≡ false = not_above 100000000 k n few t.0 in
-    let late : nat_lt 0x4000_0000_0000_0000 (s.turns + k) ≡ false = not_above 0x4000_0000_0000_0000 (s.turns + k) (s.turns + n) (omega (arith, few)) t.1 in
-    rw (none, most, late) refl
+    let limits = within_limits n s e in
+    may_run k s some (omega (arith, few, limits.0)) (omega (arith, few, limits.1))
 
 -- A RUN IS MADE AGAIN
 

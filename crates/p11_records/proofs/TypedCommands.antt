@@ -21,7 +21,7 @@ use Rattle.p11_unibus.specs.declared.register.Register.TheVariants.{Clock, Line,
 use Rattle.p11_cpu.specs.Operator.{console_register, deposit_of, examine_of, put_byte_of, set_reg_of, start_of, started}
 use Rattle.p11_cpu.specs.OperatorDevices.{key_of, mount_of, room_of, set_period_of, set_switches_of, take_typed_of, tick_of, unmount_of}
 use Rattle.p11_cpu.specs.ProcessorControl.{initialized, resumed}
-use Rattle.p11_cpu.specs.References.{after_read, bus_read, bus_written, change, part_at, shown_by}
+use Rattle.p11_cpu.specs.References.{after_read, bus_read, bus_written, change, part_at}
 use Rattle.p11_cpu.specs.State.{State}
 use Rattle.p11_cpu.specs.Turns.{after_turns}
 use Rattle.p11_panel.specs.declared.command.Command.{Command}
@@ -36,7 +36,7 @@ use Rattle.p11_panel.specs.Runs.{step_fault, whole_run}
 use Rattle.p11_panel.specs.Tapes.{all_fit, loaded, tape_loaded}
 use Rattle.p11_records.proofs.OutcomeLemmas.{is_plain, runs, plain, plain_turns}
 use Rattle.p11_records.proofs.RunLemmas.{by_fault, made_by, refused_run}
-use Rattle.p11_records.proofs.TypedSteps.{Source, by_cases}
+use Rattle.p11_records.proofs.TypedSteps.{Part, by_cases}
 
 -- THE BUS
 
@@ -73,10 +73,6 @@ bus_reads pa b = either_typed (has_word b.memory pa) b _ b.typed refl (any_read 
 bus_writes : (turn pa word : ℕ) (b : BusState) → (bus.change turn pa word b).typed ≡ b.typed
 unfolding bus.change
 bus_writes turn pa word b = either_typed (has_word b.memory pa) _ _ b.typed refl (any_written turn (register_at pa) word b)
-
--- what answers at an address, whose type other crates can't name
-abbrev Part : Type 0
-Part = Source shown_by
 
 reads_at_part : (pa : ℕ) (b : BusState) → (bus_read (part_at pa) pa b).typed ≡ b.typed
 unfolding part_at

@@ -179,7 +179,7 @@ see_same turn pa earlier b =
 -- THE ADDRESS SPACE
 
 -- what answers at an address, whose type other crates can't name either
-abbrev Part : Type 0
+abbrev pub Part : Type 0
 Part = Source shown_by
 
 seen : (turn pa : ℕ) (earlier : List ℕ) (h : HardwareState) → see turn pa (behind earlier h) ≡ see turn pa h

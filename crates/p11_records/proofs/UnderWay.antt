@@ -21,7 +21,7 @@ use Rattle.p11_console.specs.declared.way.Way.{Way}
 use Rattle.p11_console.specs.declared.way.Way.TheVariants as ways
 use Rattle.p11_records.specs.Dialogue.{typed_on}
 use Rattle.p11_records.specs.Again.{IsOfScript}
-use Rattle.p11_records.proofs.LinesFit.{IsSmall, of_script}
+use Rattle.p11_records.proofs.ShortLines.{IsSmall, of_script}
 use Rattle.p11_records.proofs.MergedLemmas.{Merged, merged_steps, none_halted, none_made, still_there}
 use Rattle.p11_records.proofs.OutcomeLemmas.{Answers, no_stop}
 use Rattle.p11_records.proofs.RecordLemmas.{Again, one_more, run_kept, run_none, unseen}
@@ -129,7 +129,7 @@ is_plain_way (ways.Putting line image text is_agreed) = false
 is_plain_way (ways.Asking line image text) = false
 is_plain_way way = true
 
-more_none : (A : Type 0) (text typed : List ℕ) (s t : SessionState) → Again A text typed s t → Again A text (typed ++ []) s t
+pub more_none : (A : Type 0) (text typed : List ℕ) (s t : SessionState) → Again A text typed s t → Again A text (typed ++ []) s t
 more_none A text typed s t done = same_typed A text typed (typed ++ []) s t (append-nil typed) done
 
 plain_stands : {A : Type 0} (way : Way A) (text typed : List ℕ) (machine : State) (store : StoreState) (t : SessionState) → is_plain_way way ≡ true → Again A text typed (with_store machine store) t → Stands way text (typed ++ typed_on way) machine store t

@@ -40,11 +40,6 @@ TwoStepsAreOne =
 abbrev pub Alike : SessionState → SessionState → Type 0
 Alike s t = (t.machine ≡ s.machine) × (t.store.files ≡ s.store.files)
 
--- lines with their answers, one after another
-unfoldable pub Obey : {A : Type 0} → List (Line A × Answer A) → SessionState → SessionState → Type 0
-Obey [] s s' = s' ≡ s
-Obey (done ∷ others) s s'' = (s' : SessionState) × Obeys done.0 s done.1 s' × Obey others s' s''
-
 -- a line that a script can have: its numbers and names are of the grammar, and its text has at most 4,096 bytes
 abbrev pub IsOfScript : {A : Type 0} → Line A → Type 0
 IsOfScript line = FitsGrammar line × (length (line_text line) ≤ 4096)
