@@ -134,7 +134,8 @@ P11_NONNULL
 int32_t p11_put_file(struct p11_handle *handle, const uint8_t *name, size_t name_length, const uint8_t *bytes,
                      size_t bytes_length);
 
-/* Hands out the last bytes of a name in the machine's store: those that were put, given or saved last.
+/* Hands out the last bytes of a name in the machine's store: those that were put, given or saved last. A saved pack has
+ * 2,494,464 bytes; where a shorter one is mounted, zeros follow.
  *
  * name, name_length                   as for p11_put_file
  * bytes, bytes_capacity, bytes_length as those of p11_answer for the text

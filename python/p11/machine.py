@@ -18,7 +18,7 @@ TEXTS = {
     1: "there are the drives 0 to 7", 2: "the drive is empty", 3: "the drive has a pack; unmount it first",
     4: "the image has more than 2,494,464 bytes", 5: "an address of a word is even",
     6: "nothing answers at this address", 7: "the drive is busy; let the machine make some turns",
-    8: "64 keys wait; let the machine take some", 9: "these bytes are no absolute tape", 10: "on the I/O page it's one word at a time",
+    8: "64 keys wait; let the machine take some", 9: "these bytes are no absolute tape", 10: "512 words at most, and on the I/O page one",
     11: "there is no such register", 12: "there is no memory for it", 13: "this is no line of the console", 14: "there is no such file",
 }
 
@@ -119,7 +119,7 @@ class Machine:
         return answer
 
     def deposit(self, address: int, *words: Union[int, Iterable[int]]) -> None:
-        """Writes words from an address on: numbers, or what gives numbers."""
+        """Writes words from an address on: numbers, or what gives numbers; 64 a line, so a refusal leaves those of the lines before."""
         row = [word for part in words for word in ([part] if isinstance(part, int) else part)]
         for at in range(0, len(row), 64):
             self.line(f"deposit {address + 2 * at:o} " + " ".join(f"{word:o}" for word in row[at:at + 64]))
