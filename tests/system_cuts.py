@@ -6,6 +6,8 @@ from system_model import Differs, Model, P11, fs
 # what changes the pack in each way: a new file, one in place of an old one, a name in place of another, one less
 COMMANDS = ["cp sort x", "echo one >y", "cat sh sort sh >x", "sort x >y", "mv y x", "cat help help >help", "rm x", "mv help z"]
 WRITE = 0o2
+# p11 reads a million pieces of a script at most, and a cut takes it some hundred lines
+CUTS_OF_ONE = 300
 
 
 def snapshots(machine, line, folder):
@@ -24,6 +26,14 @@ def snapshots(machine, line, folder):
             yield machine.pack(name)
 
 
+def again(machine, program, folder):
+    """Another p11, with the pack as this one has it."""
+    name = os.path.join(folder, "again.pack")
+    machine.pack(name)
+    machine.end()
+    return P11(program, name)
+
+
 def states(line, before, after):
     """What files there may be while a line is done: those before it, those behind it, and between them what rm has left."""
     found = [dict(before)]
@@ -35,11 +45,13 @@ def states(line, before, after):
 def cuts(program, folder, pack, boots, lines=lambda _: COMMANDS, most=1000):
     """The lines, which are given the model, are cut behind each sector that they write, until there are so many cuts; every
     BOOTS-th pack is booted."""
-    count, booted = 0, 0
+    count, booted, asked = 0, 0, 0
     machine, model = P11(program, pack), Model(fs.Pack(fs.read(pack)).files)
     for line in lines(model):
         if count >= most:
             break
+        if count >= asked + CUTS_OF_ONE:
+            machine, asked = again(machine, program, folder), count
         before = dict(model.files)
         wanted = model.answer(line)
         allowed = states(line, before, model.files)
