@@ -53,10 +53,9 @@ async function list({ page, native: { folder }, say }) {
   const record = await downloaded(page, folder, `${row} button:nth-of-type(3)`, `session-${first}.p11`);
   assert.equal(withoutRemark(record.toString('latin1')), 'deposit 5000 123\ndeposit 5000 123\ndeposit 5002 77\nexamine 5000 2\n');
   await page.click(`${row} button:nth-of-type(1)`);
-  await page.until(`app.store.session?.id === ${first} && app.link.asked.size === 0`);
+  await page.until(`${text}.includes(', here')`);
   await attempt(page, 'examine 5002');
   await shows(page, 'EXAM 005002 000077');
-  await page.until(`${text}.includes(', here')`);
   await page.eval('app.sessions.fresh(28)');
   await page.until(`document.querySelectorAll('${row} button').length === 4`);
   await page.click(`${row} button:nth-of-type(4)`);
