@@ -49,7 +49,7 @@ impl From<AllocError> for Unasked {
 }
 
 /// The version that `--version` shows.
-const VERSION: &str = "1.0.0";
+const VERSION: &str = "1.1.0";
 
 /// A number that a 32-bit word holds. Whether a machine can have that size is judged later.
 fn number<'a>() -> ValueParser<'a>

@@ -28,8 +28,8 @@ use Rattle.p11_console.specs.Record.{ended, recorded, tick_text}
 use Rattle.p11_console.specs.Runs.{slice_turns, at_slice, behind_escape, without_interrupt}
 use Rattle.p11_console.specs.Saved.{any_unsaved, all_drives}
 use Rattle.p11_console.specs.State.{ConsoleState}
-use Rattle.p11_console.specs.Steps.{Moves, FindsLine, Begins, goes_behind, StepsAgain, Answers, way_agreed, stopped_by, way_ended, is_refusal, DoesMeant, DoesScripted, DoesPhrase, ReadsAs, Reads, DoesGiven, TakesLine, TakesKey, Types, TicksIn, RunsBy, Runs, LeavesBy, Leaves, AnswersBy, has_some, has_scripted, has_given, still_warned, is_once, course_now, steps_again, is_by_person, leaves_at_once}
-use Rattle.p11_console.specs.Tries.{run_begun, Acts, ActsOr, Saves, way_saved, TriesRun, TriesLine, TriesOr, Tries, Does, DoesLine, command_of}
+use Rattle.p11_console.specs.Steps.{Moves, FindsLine, Begins, goes_behind, StepsAgain, Answers, way_agreed, stopped_by, way_ended, is_refusal, DoesMeant, DoesScripted, DoesPhrase, ReadsAs, Reads, DoesGiven, TakesLine, TakesKey, Types, TicksIn, RunsBy, Runs, LeavesBy, Leaves, AnswersBy, Consents, UnmountsBy, loses, way_consented, has_some, has_scripted, has_given, still_warned, is_once, course_now, steps_again, is_by_person, leaves_at_once}
+use Rattle.p11_console.specs.Tries.{run_begun, Acts, ActsOr, Saves, way_saved, TriesRun, TriesUnmount, TriesLine, TriesOr, Tries, Does, DoesLine, command_of}
 use Rattle.p11_console.specs.Typing.{taken, line_of, outcome_way}
 use Rattle.p11_console.specs.declared.stop.Cause.TheVariants.{Key}
 use Rattle.p11_console.specs.declared.own.Own.{Own}
@@ -75,13 +75,21 @@ run_once : {A : Type 0} (how : Trying) (line : Line A) (turns : ℕ) (until_idle
 unfolding TriesRun
 run_once how line turns until_idle s w v s' t' h k m l = whole_once how.is_whole _ _ _ s w v s' t' h k m l
 
+asked_once : {A : Type 0} (is_asking : Bool) (command : Command A) (text : List ℕ) (way : Way A) (s : State) (w v : Way A) (s' t' : State) → MatchBool is_asking ((w ≡ way) × (s' ≡ s)) (Acts command text s w s') → MatchBool is_asking ((v ≡ way) × (t' ≡ s)) (Acts command text s v t') → HadMemoryWay w → HadMemoryWay v → (w ≡ v) × (s' ≡ t')
+asked_once true command text way s w v s' t' h k m l = (h.0 ∙ sym k.0, h.1 ∙ sym k.1)
+asked_once false command text way s w v s' t' h k m l = acts_once command text s w v s' t' h k m l
+
+unmount_once : {A : Type 0} (how : Trying) (drive : ℕ) (s : State) (w v : Way A) (s' t' : State) → TriesUnmount how drive s w s' → TriesUnmount how drive s v t' → HadMemoryWay w → HadMemoryWay v → (w ≡ v) × (s' ≡ t')
+unfolding TriesUnmount
+unmount_once how drive s w v s' t' h k m l = asked_once how.is_asking _ _ _ s w v s' t' h k m l
+
 line_once : {A : Type 0} (how : Trying) (line : Line A) (s : State) (w v : Way A) (s' t' : State) → TriesLine how line s w s' → TriesLine how line s v t' → HadMemoryWay w → HadMemoryWay v → (w ≡ v) × (s' ≡ t')
 unfolding TriesLine
 line_once how (lines.Step n) s w v s' t' h k m l = run_once how (lines.Step n) n false s w v s' t' h k m l
 line_once how (lines.Continue n) s w v s' t' h k m l = run_once how (lines.Continue n) n true s w v s' t' h k m l
 line_once {A} how (lines.Save a b) s w v s' t' h k m l = saves_once {A = A} how a (lines.Save a b) (ended {A = A} (lines.Save a b)) s w v s' t' h k m l
 line_once how (lines.Mount a b d) s w v s' t' h k m l = or_once (lines.Mount a b d) (command_of (lines.Mount a b d)) s w v s' t' h k m l
-line_once how (lines.Unmount a) s w v s' t' h k m l = or_once (lines.Unmount a) (command_of (lines.Unmount a)) s w v s' t' h k m l
+line_once {A} how (lines.Unmount a) s w v s' t' h k m l = unmount_once {A = A} how a s w v s' t' h k m l
 line_once how (lines.Changed a) s w v s' t' h k m l = or_once (lines.Changed a) (command_of (lines.Changed a)) s w v s' t' h k m l
 line_once how (lines.Load a) s w v s' t' h k m l = or_once (lines.Load a) (command_of (lines.Load a)) s w v s' t' h k m l
 line_once how (lines.Examine a b) s w v s' t' h k m l = or_once (lines.Examine a b) (command_of (lines.Examine a b)) s w v s' t' h k m l
@@ -273,8 +281,22 @@ question_once (ways.Telling answer text note) c c' d' h k = absurd h
 question_once (ways.Fetching line text) c c' d' h k = absurd h
 question_once (ways.Putting line image text is_agreed) c c' d' h k = absurd h
 question_once (ways.Opening name) c c' d' h k = absurd h
+question_once (ways.Unmounting drive is_agreed) c c' d' h k = absurd h
+question_once (ways.Doubting drive) c c' d' h k = absurd h
 question_once ways.Leaving c c' d' h k = absurd h
 question_once ways.Over c c' d' h k = absurd h
+
+unmounts_once : {A : Type 0} (b : Bool) (drive : ℕ) (c c' d' : ConsoleState A) → UnmountsBy b drive c c' → UnmountsBy b drive c d' → HadMemoryWay c'.way → HadMemoryWay d'.way → c' ≡ record d' { screen = c'.screen }
+unmounts_once true drive c c' d' h k m l = said (λ x. record c { screen = x; way = ways.Doubting drive }) c' d' (λ x y. refl) h.1 k.1
+unmounts_once {A} false drive c c' d' h k m l =
+    let one = acts_once (commands.Unmount drive) (ended {A = A} (lines.Unmount drive)) c.machine c'.way d'.way c'.machine d'.machine h.0 k.0 m l in
+    let to : State → Way A → ConsoleState A = λ s w. record c { machine = s; way = w } in
+    whole (to d'.machine d'.way) c' d' (h.1 ∙ ap (λ s. to s c'.way) one.1 ∙ ap (to d'.machine) one.0) k.1
+
+consents_once : {A : Type 0} (found : Option ℕ) (drive : ℕ) (c c' d' : ConsoleState A) → Consents found drive c c' → Consents found drive c d' → c' ≡ record d' { screen = c'.screen }
+consents_once None drive c c' d' h k = said (λ x. record c { screen = x; way = ways.Free }) c' d' (λ x y. refl) h.2 k.2
+consents_once (Some byte) drive c c' d' h k =
+    said (λ x. record c { waiting = drop 1 c.waiting; screen = x; way = way_consented drive byte }) c' d' (λ x y. refl) h.1 k.1
 
 moves_once : {A : Type 0} (turns : ℕ) (way : Way A) (c c' d' : ConsoleState A) → way ≢ ways.Naming → Moves turns way c c' → Moves turns way c d' → HadMemoryWay c'.way → HadMemoryWay d'.way → c' ≡ record d' { screen = c'.screen }
 moves_once turns ways.Free c c' d' other h k m l = finds_once c c' d' h k m l
@@ -290,6 +312,8 @@ moves_once turns (ways.Stopped stop text) c c' d' other h k m l =
 moves_once turns (ways.Telling answer text note) c c' d' other h k m l =
     said (λ x. record c { has_refused = c.has_refused || (c.is_scripted && is_refusal answer); screen = x; journal = c.journal ++ text; way = ways.Free }) c' d' (λ x y. refl) h.1 k.1
 moves_once turns (ways.Asking line image text) c c' d' other h k m l = question_once c.way c c' d' h k
+moves_once turns (ways.Unmounting drive is_agreed) c c' d' other h k m l = unmounts_once (loses is_agreed drive c) drive c c' d' h k m l
+moves_once turns (ways.Doubting drive) c c' d' other h k m l = consents_once (slice_get c.waiting 0) drive c c' d' h k
 moves_once turns ways.Leaving c c' d' other h k m l = leaves_once c c' d' h k
 moves_once turns (ways.Fetching line text) c c' d' other h k m l = absurd h
 moves_once turns (ways.Putting line image text is_agreed) c c' d' other h k m l = absurd h

@@ -1,12 +1,12 @@
 -- Where a step does nothing.
-use Rattle.std.proofs.Common.{◌≡◌, refl, sym, subst}
+use Rattle.std.proofs.Common.{◌≡◌, ℕ, false, None, slice_get, refl, sym, subst}
 use Rattle.std.specs.Prelude.{IsTrue}
 use Rattle.p11_console.specs.State.{ConsoleState}
 use Rattle.p11_console.specs.Steps.{Rests, RestsForKeys, RunRests, TypingRests, takes_memory}
 use Rattle.p11_console.specs.declared.run.Run.{Run}
 use Rattle.p11_console.specs.declared.want.Want.{Want}
 use Rattle.p11_console.specs.declared.want.Want.TheVariants as wants
-use Rattle.p11_console.specs.declared.way.Way.TheVariants.{Typing, Running}
+use Rattle.p11_console.specs.declared.way.Way.TheVariants.{Typing, Running, Doubting}
 
 pub running_rests : {A : Type 0} (want : Want) (run : Run) (c : ConsoleState A) → c.way ≡ Running run → RunRests want run c → Rests want c
 running_rests wants.Step run c e h = h
@@ -30,3 +30,6 @@ typing_rests wants.End c e h = absurd h
 
 pub answer_rests : {A : Type 0} (want : Want) (c : ConsoleState A) → want ≡ wants.Keys → RestsForKeys c.way c → Rests want c
 answer_rests want c is h = subst (λ w. Rests w c) (sym is) h
+
+pub consent_rests : {A : Type 0} (want : Want) (drive : ℕ) (c : ConsoleState A) → c.way ≡ Doubting drive → (want ≡ wants.Keys) × (slice_get c.waiting 0 ≡ None) × (c.is_over ≡ false) → Rests want c
+consent_rests want drive c e h = subst (λ w. Rests w c) (sym h.0) (subst (λ way. RestsForKeys way c) (sym e) (h.1, h.2))

@@ -20,6 +20,10 @@ unfoldable pub is_unsaved : State → List (Option (List ℕ)) → ℕ → Bool
 is_unsaved s saved drive =
     option_map_or (is_unsaved_pack (slice_index_or saved drive None)) (contents_of (drive_of s.bus.disk drive)) false
 
+-- there is a drive of this number, with a pack that has sectors which no file has
+abbrev pub loses_sectors : State → List (Option (List ℕ)) → ℕ → Bool
+loses_sectors s saved drive = nat_lt drive 8 && is_unsaved s saved drive
+
 -- the pack on a drive as it is now, where it has sectors that no file has
 unfoldable pub unsaved_image : State → List (Option (List ℕ)) → ℕ → Option (List ℕ)
 unsaved_image s saved drive =

@@ -6,10 +6,11 @@ use Rattle.p11_lines.specs.declared.answer.Answer.TheVariants as answers
 use Rattle.p11_lines.specs.declared.answer.StopReason.{StopReason}
 use Rattle.p11_lines.specs.declared.fault.Fault.TheVariants.{BadLine}
 use Rattle.p11_lines.specs.declared.line.Line.{Line}
+use Rattle.p11_lines.specs.declared.line.Line.TheVariants as lines
 use Rattle.p11_lines.specs.AnswerText.{text_of}
 use Rattle.p11_cpu.specs.State.{State}
 use Rattle.p11_cpu.specs.OperatorDevices.{room_of}
-use Rattle.p11_panel.specs.declared.command.Command.TheVariants.{Tick}
+use Rattle.p11_panel.specs.declared.command.Command.TheVariants.{Tick, Unmount}
 use Rattle.p11_panel.specs.Calls.Runs.{run_command}
 use Rattle.p11_panel.specs.Commands.{CommandStep}
 use Rattle.p11_panel.specs.Keys.{pressed}
@@ -20,13 +21,13 @@ use Rattle.p11_phrases.specs.Phrases.{meaning}
 use Rattle.p11_console.specs.Lines.{first_line, behind_line, is_line_feed}
 use Rattle.p11_console.specs.Manner.{is_person, is_batch, tried_by}
 use Rattle.p11_console.specs.Own.{own_of, verb_of}
-use Rattle.p11_console.specs.Record.{run_text, keys_text, tick_text}
+use Rattle.p11_console.specs.Record.{ended, run_text, keys_text, tick_text}
 use Rattle.p11_console.specs.Runs.{talk_of, course_of, given_keys, behind_escape, without_interrupt, slice_turns, at_slice, pressed_on, recorded_on, next_run, goes_on, typed_in}
 use Rattle.p11_console.specs.Said.{Says, SaysBefore}
-use Rattle.p11_console.specs.Saved.{any_unsaved, all_drives}
+use Rattle.p11_console.specs.Saved.{any_unsaved, all_drives, loses_sectors}
 use Rattle.p11_console.specs.State.{ConsoleState}
 use Rattle.p11_console.specs.Stops.{stop_text}
-use Rattle.p11_console.specs.Tries.{DoesLine, Tries, refused, run_begun}
+use Rattle.p11_console.specs.Tries.{Acts, DoesLine, Tries, refused, run_begun}
 use Rattle.p11_console.specs.Typing.{taken, line_of, kept_line, past_of, outcome_way, CompletedBy}
 use Rattle.p11_console.specs.declared.own.Own.{Own}
 use Rattle.p11_console.specs.declared.own.Own.TheVariants.{Quit, Once}
@@ -293,6 +294,33 @@ abbrev pub Answers : {A : Type 0} → Way A → ConsoleState A → ConsoleState 
 Answers (ways.Asking line image text) c c' = AnswersBy (slice_get c.waiting 0) line image text c c'
 Answers _ c c' = ⊥
 
+-- ---- a pack that is taken off
+
+-- a person typed the line and hasn't agreed, and it would lose sectors that no file has, where files may be written
+unfoldable pub loses : {A : Type 0} → Bool → ℕ → ConsoleState A → Bool
+loses is_agreed drive c =
+    not (is_agreed || (c.is_scripted || c.settings.is_saveless)) && loses_sectors c.machine c.saved drive
+
+-- it is asked whether that is so, or the pack is taken off
+abbrev pub UnmountsBy : {A : Type 0} → Bool → ℕ → ConsoleState A → ConsoleState A → Type 0
+UnmountsBy true drive c c' = Says c.screen c'.screen × (c' ≡ record c { screen = c'.screen; way = ways.Doubting drive })
+UnmountsBy {A} false drive c c' =
+    Acts (Unmount drive) (ended {A = A} (lines.Unmount drive)) c.machine c'.way c'.machine
+    × (c' ≡ record c { machine = c'.machine; way = c'.way })
+
+abbrev pub Unmounts : {A : Type 0} → Bool → ℕ → ConsoleState A → ConsoleState A → Type 0
+Unmounts is_agreed drive c c' = UnmountsBy (loses is_agreed drive c) drive c c'
+
+abbrev pub way_consented : {A : Type 0} → ℕ → ℕ → Way A
+way_consented drive byte = if agrees byte then ways.Unmounting drive true else ways.Free
+
+-- the first key that waits is the answer, and the end of the keyboard is none
+abbrev pub Consents : {A : Type 0} → Option ℕ → ℕ → ConsoleState A → ConsoleState A → Type 0
+Consents None drive c c' = (c.is_over ≡ true) × Says c.screen c'.screen × (c' ≡ record c { screen = c'.screen; way = ways.Free })
+Consents (Some byte) drive c c' =
+    Says c.screen c'.screen
+    × (c' ≡ record c { waiting = drop 1 c.waiting; screen = c'.screen; way = way_consented drive byte })
+
 -- ---- the end
 
 -- It is over if no pack is unsaved, that was told, no file is to be written, or no key comes any more. Else it is told.
@@ -341,6 +369,8 @@ Moves turns (ways.Telling answer text note) c c' =
       way = ways.Free;
     })
 Moves turns (ways.Asking line image text) c c' = Answers c.way c c'
+Moves turns (ways.Unmounting drive is_agreed) c c' = Unmounts is_agreed drive c c'
+Moves turns (ways.Doubting drive) c c' = Consents (slice_get c.waiting 0) drive c c'
 Moves turns ways.Leaving c c' = Leaves c c'
 Moves turns _ c c' = ⊥
 
@@ -354,6 +384,7 @@ takes_memory (ways.Running run) = true
 takes_memory (ways.Sliced run answer) = true
 takes_memory (ways.Stopped stop text) = true
 takes_memory (ways.Telling answer text note) = true
+takes_memory (ways.Unmounting drive is_agreed) = true
 takes_memory ways.Leaving = true
 takes_memory _ = false
 
@@ -370,6 +401,7 @@ has_bytes _ = false
 abbrev pub RestsForKeys : {A : Type 0} → Way A → ConsoleState A → Type 0
 RestsForKeys ways.Typing c = TypingRests wants.Keys c
 RestsForKeys (ways.Asking line image text) c = (slice_get c.waiting 0 ≡ None) × (c.is_over ≡ false)
+RestsForKeys (ways.Doubting drive) c = (slice_get c.waiting 0 ≡ None) × (c.is_over ≡ false)
 RestsForKeys _ c = ⊥
 
 -- What it wants of the host where it does nothing.

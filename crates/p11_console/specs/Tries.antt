@@ -20,7 +20,7 @@ use Rattle.p11_console.specs.declared.settings.Trying.{Trying}
 use Rattle.p11_console.specs.declared.own.Own.{Own}
 use Rattle.p11_console.specs.declared.own.Own.TheVariants as own
 use Rattle.p11_console.specs.declared.way.Way.{Way}
-use Rattle.p11_console.specs.declared.way.Way.TheVariants.{Free, Helping, Running, Telling, Fetching, Putting, Opening, Leaving}
+use Rattle.p11_console.specs.declared.way.Way.TheVariants.{Free, Helping, Running, Telling, Fetching, Putting, Unmounting, Opening, Leaving}
 
 -- a refusal, of which nothing is recorded
 abbrev pub refused : {A : Type 0} → Answer A → Way A
@@ -31,9 +31,8 @@ unfoldable pub run_begun : {A : Type 0} → ℕ → Bool → Way A
 run_begun turns until_idle =
     if turns == 0 || nat_lt 100000000 turns then refused (answers.Refused TooMany) else Running (run_of turns until_idle)
 
--- the command of a line that makes no run and names no file; and of another line that one
+-- the command of a line that makes no run, names no file and takes no pack off; and of another line that one
 unfoldable pub command_of : {A : Type 0} → Line A → Result (Command A) (Line A)
-command_of (lines.Unmount drive) = Ok (commands.Unmount drive)
 command_of (lines.Changed drive) = Ok (commands.Changed drive)
 command_of (lines.Examine address count) = Ok (commands.Examine address count)
 command_of (lines.Deposit address words) = Ok (commands.Deposit address words)
@@ -75,9 +74,16 @@ TriesRun how line turns until_idle s way s' =
     MatchBool how.is_whole (Acts (run_command until_idle turns) (ended line) s way s')
     ((way ≡ run_begun turns until_idle) × (s' ≡ s))
 
+-- a pack is taken off; where a person may be asked first, by a step of its own
+unfoldable pub TriesUnmount : {A : Type 0} → Trying → ℕ → State → Way A → State → Type 0
+TriesUnmount {A} how drive s way s' =
+    MatchBool how.is_asking ((way ≡ Unmounting drive false) × (s' ≡ s))
+    (Acts (commands.Unmount drive) (ended {A = A} (lines.Unmount drive)) s way s')
+
 unfoldable pub TriesLine : {A : Type 0} → Trying → Line A → State → Way A → State → Type 0
 TriesLine how (lines.Step turns) s way s' = TriesRun how (lines.Step turns) turns false s way s'
 TriesLine how (lines.Continue turns) s way s' = TriesRun how (lines.Continue turns) turns true s way s'
+TriesLine how (lines.Unmount drive) s way s' = TriesUnmount how drive s way s'
 TriesLine {A} how (lines.Save drive name) s way s' =
     Saves {A = A} how drive (lines.Save drive name) (ended {A = A} (lines.Save drive name)) s way s'
 TriesLine how line s way s' = ActsOr line (command_of line) s way s'

@@ -14,6 +14,7 @@ mod host;
 mod lines;
 mod runs;
 mod typed;
+mod unmounts;
 
 use crate::buffer::Buffer;
 use crate::completing::{Kind, kind_at};
@@ -332,7 +333,7 @@ impl<A: Allocator + Copy> Console<A> {
     }
 
     /// Does that, but for bringing something else under way.
-    #[tactic(auto, using(crate::proofs::Resting::running_rests, crate::proofs::Resting::typing_rests, crate::proofs::Resting::answer_rests))]
+    #[tactic(auto, using(crate::proofs::Resting::running_rests, crate::proofs::Resting::typing_rests, crate::proofs::Resting::answer_rests, crate::proofs::Resting::consent_rests))]
     fn do_next(&mut self, alloc: A, turns: u32) -> Result<Way<A>, Want>
         ensures ok { IfOk result (λ way. Moves turns self.old.way self.old (record self.new { way = way })) }
         ensures err { IfErr result (λ want. Rests want self.old) }
@@ -388,6 +389,15 @@ impl<A: Allocator + Copy> Console<A> {
                 Ok(Way::Free)
             }
             Way::Asking { .. } => self.take_answer(),
+            Way::Unmounting { drive, is_agreed } => {
+                let drive = *drive;
+                let is_agreed = *is_agreed;
+                self.unmount(alloc, drive, is_agreed)
+            }
+            Way::Doubting { drive } => {
+                let drive = *drive;
+                self.take_consent(drive)
+            }
             Way::Fetching { .. } => Err(Want::Fetch),
             Way::Opening { .. } => Err(Want::Fetch),
             Way::Putting { .. } => Err(Want::Put),

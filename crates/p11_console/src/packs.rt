@@ -1,6 +1,6 @@
 // What each drive held when it was last saved, and which have sectors that no file has.
 ghost use Rattle.std.specs.Prelude.{◌≡◌, ◌<◌, None, Some, replicate, slice_index_or, slice_set, not, nat_lt, IfOk, option_copied};
-ghost use Rattle.p11_console.specs.Saved.{is_image, is_unsaved, unsaved_image, any_unsaved, all_drives, saved_by};
+ghost use Rattle.p11_console.specs.Saved.{is_image, is_unsaved, loses_sectors, unsaved_image, any_unsaved, all_drives, saved_by};
 
 use crate::text::Text;
 use p11_lines::{Answer, Bytes, Fault, Line, NoMemory};
@@ -153,6 +153,22 @@ fn is_unsaved<A: Allocator + Copy>(
         Answer::Refused(Fault::NoMemory) => Err(NoMemory),
         _ => Ok(false),
     }
+}
+
+/// Whether a drive, if there is one of that number, has a pack with sectors that no file has. Nothing changes.
+pub(crate) fn loses_sectors<A: Allocator + Copy>(
+    alloc: A,
+    panel: &mut Panel<A>,
+    saved: &Packs<A>,
+    drive: u32,
+) -> Result<bool, NoMemory>
+    ensures is { IfOk result (λ is. is ≡ loses_sectors panel.old saved.now drive) }
+    ensures same { panel.new ≡ panel.old }
+{
+    if drive >= 8 {
+        return Ok(false);
+    }
+    is_unsaved(alloc, panel, saved, drive)
 }
 
 /// The image of the pack on a drive, where it has sectors that no file has. Nothing changes.

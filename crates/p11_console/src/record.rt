@@ -2,9 +2,8 @@
 ghost use Rattle.std.specs.Prelude.{◌≡◌, ◌++◌, IfOk};
 ghost use Rattle.p11_console.specs.Record.{ended, run_text, keys_text, tick_text, recorded};
 
-use itoa::Buffer as Digits;
 use p11_lines::{Answer, Bytes, Line, NoMemory, line_of};
-use std::alloc::{AllocError, Allocator};
+use std::alloc::Allocator;
 
 /// The text of a line in the record.
 #[tactic(auto, unfolding(crate::specs::Record::ended))]
@@ -12,24 +11,26 @@ pub(crate) fn record_line<A: Allocator>(alloc: A, line: &Line<A>) -> Result<Byte
     ensures { IfOk result (λ text. text ≡ ended line.now) }
 {
     let mut text = line_of(alloc, line)?;
-    text.push(b'\n').map_err(AllocError::from)?;
+    text.extend_from_slice(b"\n")?;
     Ok(Bytes::from_vec(text))
 }
 
+/// The text of UNMOUNT in the record.
+pub(crate) fn record_unmount<A: Allocator>(alloc: A, drive: u32) -> Result<Bytes<A>, NoMemory>
+    ensures { IfOk result (λ text. text ≡ ended {A = A} (Line.Unmount drive)) }
+{
+    record_line(alloc, &Line::Unmount { drive })
+}
+
 /// The text that the record has of a run of so many turns; none where there were none.
-#[tactic(auto, unfolding(crate::specs::Record::run_text, p11_lines::specs::Calls::LineText::line_text))]
+#[tactic(auto, unfolding(crate::specs::Record::run_text, crate::specs::Record::ended))]
 pub(crate) fn record_run<A: Allocator>(alloc: A, turns: u32) -> Result<Bytes<A>, NoMemory>
     ensures { IfOk result (λ text. text ≡ run_text A turns) }
 {
-    let mut text = Vec::new(alloc);
     if turns == 0 {
-        return Ok(Bytes::from_vec(text));
+        return Ok(Bytes::from_vec(Vec::new(alloc)));
     }
-    let mut digits = Digits::new();
-    text.extend_from_slice(b"step ")?;
-    text.extend_from_slice(digits.format(turns).as_bytes())?;
-    text.push(b'\n').map_err(AllocError::from)?;
-    Ok(Bytes::from_vec(text))
+    record_line(alloc, &Line::Step { turns })
 }
 
 /// The text of keys that are pressed behind a run of so many turns.

@@ -3,7 +3,7 @@ ghost use Rattle.std.specs.Prelude.{◌≡◌, [], IfOk, OnErr};
 ghost use Rattle.p11_panel.specs.Session.{is_silent, has_answer};
 ghost use Rattle.p11_panel.specs.Commands.{CommandStep};
 ghost use Rattle.p11_console.specs.Own.{name_of};
-ghost use Rattle.p11_console.specs.Tries.{Tries, TriesLine, TriesRun, Acts, Saves, way_saved, run_begun, command_of, DoesLine};
+ghost use Rattle.p11_console.specs.Tries.{Tries, TriesLine, TriesRun, TriesUnmount, Acts, Saves, way_saved, run_begun, command_of, DoesLine};
 ghost use Rattle.p11_console.specs.Record.{ended};
 
 use crate::files::file_in;
@@ -11,7 +11,7 @@ use crate::misfit::why_no_line;
 use crate::note::{Note, Subject, Topic};
 use crate::own::{Own, name_of, own_of, verb_and_rest};
 use crate::reasons::{note_for, note_of};
-use crate::record::{record_line, recorded};
+use crate::record::{record_line, record_unmount, recorded};
 use crate::run::{MOST_TURNS, run_of, talk_of};
 use crate::settings::Trying;
 use crate::slices::run_command;
@@ -60,13 +60,12 @@ pub(crate) fn begin_run<A: Allocator + Copy>(alloc: A, turns: u32, until_idle: b
     Way::Running(run_of(turns, until_idle))
 }
 
-/// The command of a line that makes no run and names no file; and of another line that one.
+/// The command of a line that makes no run, names no file and takes no pack off; and of another line that one.
 #[tactic(auto, unfolding(crate::specs::Tries::command_of))]
 fn command<A: Allocator>(line: Line<A>) -> Result<Command<A>, Line<A>>
     ensures { result ≡ command_of line }
 {
     match line {
-        Line::Unmount { drive } => Ok(Command::Unmount { drive }),
         Line::Changed { drive } => Ok(Command::Changed { drive }),
         Line::Examine { address, count } => Ok(Command::Examine { address, count }),
         Line::Deposit { address, words } => Ok(Command::Deposit { address, words }),
@@ -201,6 +200,27 @@ fn try_run<A: Allocator + Copy>(
     Ok(begin_run(alloc, turns, until_idle))
 }
 
+/// Does UNMOUNT, or leaves it to a step that may ask a person first.
+#[tactic(auto, unfolding(crate::specs::Tries::TriesUnmount))]
+fn try_unmount<A: Allocator + Copy>(
+    alloc: A,
+    panel: &mut Panel<A>,
+    how: Trying,
+    drive: u32,
+) -> Result<Way<A>, NoMemory>
+    ensures ok { IfOk result (λ way. TriesUnmount how drive panel.old way panel.new) }
+    ensures err { OnErr result (panel.new ≡ panel.old) }
+{
+    if how.is_asking {
+        return Ok(Way::Unmounting {
+            drive,
+            is_agreed: false,
+        });
+    }
+    let text = record_unmount(alloc, drive)?;
+    Ok(act(alloc, panel, Command::Unmount { drive }, text))
+}
+
 /// Does a line of the language.
 #[tactic(auto, unfolding(crate::specs::Tries::TriesLine))]
 fn try_line<A: Allocator + Copy>(
@@ -217,6 +237,7 @@ fn try_line<A: Allocator + Copy>(
         Line::Continue { turns } => {
             try_run(alloc, panel, how, Line::Continue { turns }, turns, true)
         }
+        Line::Unmount { drive } => try_unmount(alloc, panel, how, drive),
         Line::Save { drive, name } => {
             let line = Line::Save { drive, name };
             let text = record_line(alloc, &line)?;

@@ -60,6 +60,15 @@ pub enum Way<A: Allocator = Global> {
         image: Bytes<A>,
         text: Bytes<A>,
     },
+    /// A pack is to be taken off its drive: where no file has it a person is asked first, unless that is agreed already.
+    Unmounting {
+        drive: u32,
+        is_agreed: bool,
+    },
+    /// A person is asked whether a pack that no file has is taken off its drive.
+    Doubting {
+        drive: u32,
+    },
     /// The lines of a file are to be done.
     Opening {
         name: Bytes<A>,

@@ -4,17 +4,20 @@ use crate::file_fault::{FileFault, fault_of};
 use std::alloc::Allocator;
 use std::fs;
 use std::fs::{File, Metadata};
-use std::io::{IsTerminal, Read};
-use std::os::unix::fs::FileTypeExt;
+use std::io::Read;
+use std::os::unix::fs::{FileTypeExt, MetadataExt};
 
 /// Reads in one fetch at most, the one that finds the file's end among them.
 const MOST_READS: u32 = 4096;
 
+/// The number of the system's null device, which has no bytes: major number 1, minor number 3.
+const NULL_DEVICE: u64 = 0x103;
+
 /// Bytes of one read at most.
 const READ_BYTES: usize = 4096;
 
-/// The bytes of a file, where its end is found in time: of one below a folder, where one is given. A pipe or a terminal, whose
-/// bytes come later, is refused unless it is to be waited for.
+/// The bytes of a file, where its end is found in time: of one below a folder, where one is given. A pipe, a terminal or
+/// another device, whose bytes come later or have no end, is refused unless it is to be waited for.
 pub(crate) fn read_file<A: Allocator>(
     rt: &HostRuntime,
     alloc: A,
@@ -46,22 +49,25 @@ fn open_below(rt: &HostRuntime, folder: &str, name: &str) -> Result<File, FileFa
     open_file(rt, whole.as_str())
 }
 
-/// Opens a file that has its bytes, and an end, at once.
+/// Opens a file that has its bytes, and an end, at once: one that may wait isn't opened, nor read.
 fn open_file(rt: &HostRuntime, path: &str) -> Result<File, FileFault> {
     if may_wait(&fs::metadata(rt, path)?) {
         return Err(FileFault::NotFile);
     }
     let file = File::open(rt, path)?;
-    if file.is_terminal() {
+    if may_wait(&file.metadata()?) {
         return Err(FileFault::NotFile);
     }
     Ok(file)
 }
 
-/// Whether it is a pipe or a socket, which another process may have to open.
+/// Whether it is a pipe, a socket, or a device other than the null device.
 fn may_wait(there: &Metadata) -> bool {
     let kind = there.file_type();
-    kind.is_fifo() || kind.is_socket()
+    if kind.is_char_device() {
+        return there.rdev() != NULL_DEVICE;
+    }
+    kind.is_fifo() || kind.is_socket() || kind.is_block_device()
 }
 
 /// Adds what one read gives; whether it gave anything.

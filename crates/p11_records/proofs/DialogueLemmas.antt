@@ -103,6 +103,8 @@ now_due (ways.Telling answer more note) text typed machine store t h = h
 now_due {A} (ways.Fetching line more) text typed machine store t h = no_due A text typed (with_store machine store) t h.0
 now_due {A} (ways.Putting line image more is_agreed) text typed machine store t h = no_due A text typed (with_store machine store) t h.0
 now_due {A} (ways.Asking line image more) text typed machine store t h = no_due A text typed (with_store machine store) t h.0
+now_due {A} (ways.Unmounting drive is_agreed) text typed machine store t h = no_due A text typed (with_store machine store) t h.0
+now_due {A} (ways.Doubting drive) text typed machine store t h = no_due A text typed (with_store machine store) t h.0
 now_due {A} way text typed machine store t h = no_due A text typed (with_store machine store) t h
 
 way_due : {A : Type 0} (way : Way A) (text typed : List ℕ) (machine : State) (store : StoreState) (t : SessionState) → Stands way text typed machine store t → Again A (text ++ due way) typed (with_store machine store) t

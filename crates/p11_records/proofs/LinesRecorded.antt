@@ -18,7 +18,7 @@ use Rattle.p11_store.specs.Store.{StoreState}
 use Rattle.p11_console.specs.Own.{own_of, name_of}
 use Rattle.p11_console.specs.Record.{ended, recorded}
 use Rattle.p11_console.specs.Runs.{run_of, talk_of, typed_in}
-use Rattle.p11_console.specs.Tries.{Acts, Does, DoesLine, Saves, Tries, TriesLine, TriesOr, TriesRun, command_of, run_begun, way_saved}
+use Rattle.p11_console.specs.Tries.{Acts, Does, DoesLine, Saves, Tries, TriesLine, TriesOr, TriesRun, TriesUnmount, command_of, run_begun, way_saved}
 use Rattle.p11_console.specs.declared.own.Own.{Own}
 use Rattle.p11_console.specs.declared.own.Own.TheVariants as own
 use Rattle.p11_console.specs.declared.settings.Trying.{Trying}
@@ -123,14 +123,25 @@ saves {A} how drive name way text typed machine machine' store t fits clean done
 fetches : {A : Type 0} (line : Line A) (text typed : List ℕ) (machine : State) (store : StoreState) (t : SessionState) → machine.bus.typed ≡ [] → Again A text typed (with_store machine store) t → IsFetching line → FitsGrammar line → Brings (ways.Fetching line (ended line)) text typed machine store t
 fetches {A} line text typed machine store t clean done fetching fits = record { clean = clean; stands = (more_none A text typed (with_store machine store) t done, refl, fetching, fits) }
 
+-- a pack is taken off
+pub takes_off : {A : Type 0} (drive : ℕ) (way : Way A) (text typed : List ℕ) (machine machine' : State) (store : StoreState) (t : SessionState) → FitsGrammar {A = A} (lines.Unmount drive) → machine.bus.typed ≡ [] → Again A text typed (with_store machine store) t → Acts (commands.Unmount drive) (ended {A = A} (lines.Unmount drive)) machine way machine' → Brings way text typed machine' store t
+unfolding Obeys
+takes_off {A} drive w x y m m' s t f c d h = acts {A = A} (lines.Unmount drive) (commands.Unmount drive) w x y m m' s t refl f (λ answer step answers_it. tt) (λ answer step. (step, refl)) c d h
+
+unmount_tried : {A : Type 0} (is_asking : Bool) (drive : ℕ) (way : Way A) (text typed : List ℕ) (machine machine' : State) (store : StoreState) (t : SessionState) → FitsGrammar {A = A} (lines.Unmount drive) → machine.bus.typed ≡ [] → Again A text typed (with_store machine store) t
+    → MatchBool is_asking ((way ≡ ways.Unmounting drive false) × (machine' ≡ machine)) (Acts (commands.Unmount drive) (ended {A = A} (lines.Unmount drive)) machine way machine') → Brings way text typed machine' store t
+unmount_tried {A} true drive w x y m m' s t f c d h =
+    is_way (ways.Unmounting drive false) w x y m m' s t h.0 h.1 (record { clean = c; stands = (more_none A x y (with_store m s) t d, f) })
+unmount_tried {A} false drive w x y m m' s t f c d h = takes_off {A = A} drive w x y m m' s t f c d h
+
 line_tried : {A : Type 0} (how : Trying) (line : Line A) (way : Way A) (text typed : List ℕ) (machine machine' : State) (store : StoreState) (t : SessionState) → FitsGrammar line → machine.bus.typed ≡ [] → Again A text typed (with_store machine store) t → TriesLine how line machine way machine' → Brings way text typed machine' store t
-unfolding TriesLine TriesRun Obeys command_of
+unfolding TriesLine TriesRun TriesUnmount Obeys command_of
 line_tried how (lines.Step n) w x y m m' s t f c d h = run_if how.is_whole (lines.Step n) false n w x y m m' s t f tt (λ answer step. (step, refl)) c d h
 line_tried how (lines.Continue n) w x y m m' s t f c d h = run_if how.is_whole (lines.Continue n) true n w x y m m' s t f tt (λ answer step. (step, refl)) c d h
 line_tried {A} how (lines.Save drive name) w x y m m' s t f c d h = saves {A = A} how drive name w x y m m' s t f c d h
 line_tried {A} how (lines.Mount drive name protect) w x y m m' s t f c d h = waits {A = A} (lines.Mount drive name protect) w x y m m' s t (fetches {A = A} (lines.Mount drive name protect) x y m s t c d tt f) h
 line_tried {A} how (lines.Load name) w x y m m' s t f c d h = waits {A = A} (lines.Load name) w x y m m' s t (fetches {A = A} (lines.Load name) x y m s t c d tt f) h
-line_tried how (lines.Unmount a) w x y m m' s t f c d h = acts (lines.Unmount a) (commands.Unmount a) w x y m m' s t refl f (λ answer step answers_it. tt) (λ answer step. (step, refl)) c d h
+line_tried {A} how (lines.Unmount a) w x y m m' s t f c d h = unmount_tried {A = A} how.is_asking a w x y m m' s t f c d h
 line_tried how (lines.Changed a) w x y m m' s t f c d h = acts (lines.Changed a) (commands.Changed a) w x y m m' s t refl f (λ answer step answers_it. tt) (λ answer step. (step, refl)) c d h
 line_tried how (lines.Examine a b) w x y m m' s t f c d h = acts (lines.Examine a b) (commands.Examine a b) w x y m m' s t refl f (λ answer step answers_it. tt) (λ answer step. (step, refl)) c d h
 line_tried how (lines.Deposit a b) w x y m m' s t f c d h = acts (lines.Deposit a b) (commands.Deposit a b) w x y m m' s t refl f (λ answer step answers_it. few_deposited a b answer m m' answers_it step) (λ answer step. (step, refl)) c d h

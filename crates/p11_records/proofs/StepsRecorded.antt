@@ -6,6 +6,7 @@ use Rattle.p11_lines.specs.declared.answer.Answer.TheVariants as answers
 use Rattle.p11_lines.specs.declared.answer.StopReason.{StopReason}
 use Rattle.p11_lines.specs.declared.fault.Fault.TheVariants.{BadLine}
 use Rattle.p11_lines.specs.declared.line.Line.{Line}
+use Rattle.p11_lines.specs.declared.line.Line.TheVariants as lines
 use Rattle.p11_lines.specs.Calls.LineText.{FitsGrammar}
 use Rattle.p11_line_editor.specs.declared.outcome.Outcome.{Outcome}
 use Rattle.p11_line_editor.specs.declared.outcome.Outcome.TheVariants as outcomes
@@ -25,7 +26,7 @@ use Rattle.p11_console.specs.Manner.{tried_by}
 use Rattle.p11_console.specs.Record.{ended, keys_text, run_text, tick_text}
 use Rattle.p11_console.specs.Runs.{goes_on, next_run, pressed_on, recorded_on, slice_turns, talk_of, typed_in}
 use Rattle.p11_console.specs.State.{ConsoleState}
-use Rattle.p11_console.specs.Steps.{Answers, AnswersBy, Begins, Completes, DoesGiven, DoesMeant, DoesPhrase, DoesScripted, FindsLine, Leaves, LeavesBy, Moves, Reads, ReadsAs, Runs, RunsBy, StepsAgain, TakesKey, TakesLine, TicksIn, Types, agrees, course_now, has_given, has_scripted, has_some, is_all, is_by_person, keys_now, steps_again, way_behind, way_ended, way_stopped}
+use Rattle.p11_console.specs.Steps.{Answers, AnswersBy, Begins, Completes, Consents, DoesGiven, DoesMeant, DoesPhrase, DoesScripted, FindsLine, Leaves, LeavesBy, Moves, Reads, ReadsAs, Runs, RunsBy, StepsAgain, TakesKey, TakesLine, TicksIn, Types, UnmountsBy, agrees, course_now, has_given, has_scripted, has_some, is_all, is_by_person, keys_now, loses, steps_again, way_behind, way_ended, way_stopped}
 use Rattle.p11_console.specs.Typing.{outcome_way}
 use Rattle.p11_console.specs.declared.run.Course.{Course}
 use Rattle.p11_console.specs.declared.run.Course.TheVariants as course
@@ -36,7 +37,7 @@ use Rattle.p11_console.specs.declared.stop.Stop.{Stop}
 use Rattle.p11_console.specs.declared.way.Way.{Way}
 use Rattle.p11_console.specs.declared.way.Way.TheVariants as ways
 use Rattle.p11_records.proofs.KeysGiven.{some_given}
-use Rattle.p11_records.proofs.LinesRecorded.{Brings, begun_holds, line_done, talk_holds, text_tried}
+use Rattle.p11_records.proofs.LinesRecorded.{Brings, begun_holds, line_done, takes_off, talk_holds, text_tried}
 use Rattle.p11_records.proofs.RecordLemmas.{Again}
 use Rattle.p11_records.proofs.RunsRecorded.{keyed, keys_leave_none, not_full, slice_holds, tick_leaves_none, ticked, within}
 use Rattle.p11_records.proofs.UnderWay.{Going, Holds, IsSaving, Now, Open, Stands, closes, goes, is_plain_way, opens, plain_holds, run_holds, told_holds}
@@ -223,6 +224,21 @@ answered_by None line image more c c' taken typed store t clean done e saving fi
 answered_by (Some byte) line image more c c' taken typed store t clean done e saving fits h =
     moved taken typed store t h.1 (agreed (agrees byte) line image more (taken ++ c.journal) typed c.machine store t clean done e saving fits)
 
+unmounts_by : {A : Type 0} (b : Bool) (drive : ℕ) (c c' : ConsoleState A) (taken typed : List ℕ) (store : StoreState) (t : SessionState) → c.machine.bus.typed ≡ [] → Again A (taken ++ c.journal) typed (with_store c.machine store) t → FitsGrammar {A = A} (lines.Unmount drive) → UnmountsBy b drive c c' → Brought c' taken typed store t
+unmounts_by {A} true drive c c' taken typed store t clean done fits h =
+    moved taken typed store t h.1 (record { clean = clean; stands = (more_none A (taken ++ c.journal) typed (with_store c.machine store) t done, fits) })
+unmounts_by {A} false drive c c' taken typed store t clean done fits h =
+    moved taken typed store t h.1 (takes_off {A = A} drive c'.way (taken ++ c.journal) typed c.machine c'.machine store t fits clean done h.0)
+
+consented : {A : Type 0} (b : Bool) (drive : ℕ) (text typed : List ℕ) (machine : State) (store : StoreState) (t : SessionState) → machine.bus.typed ≡ [] → Again A text typed (with_store machine store) t → FitsGrammar {A = A} (lines.Unmount drive) → Brings {A = A} (if b then ways.Unmounting drive true else ways.Free) text typed machine store t
+consented {A} true drive text typed machine store t clean done fits = record { clean = clean; stands = (more_none A text typed (with_store machine store) t done, fits) }
+consented {A} false drive text typed machine store t clean done fits = plain_holds {A = A} ways.Free text typed machine store t refl clean done
+
+consents_by : {A : Type 0} (found : Option ℕ) (drive : ℕ) (c c' : ConsoleState A) (taken typed : List ℕ) (store : StoreState) (t : SessionState) → c.machine.bus.typed ≡ [] → Again A (taken ++ c.journal) typed (with_store c.machine store) t → FitsGrammar {A = A} (lines.Unmount drive) → Consents found drive c c' → Brought c' taken typed store t
+consents_by None drive c c' taken typed store t clean done fits h = plainly taken typed store t h.2 refl clean done
+consents_by {A} (Some byte) drive c c' taken typed store t clean done fits h =
+    moved taken typed store t h.1 (consented {A = A} (agrees byte) drive (taken ++ c.journal) typed c.machine store t clean done fits)
+
 leaves_by : {A : Type 0} (b : Bool) (c c' : ConsoleState A) (taken typed : List ℕ) (store : StoreState) (t : SessionState) → c.machine.bus.typed ≡ [] → Again A (taken ++ c.journal) typed (with_store c.machine store) t → LeavesBy b c c' → Brought c' taken typed store t
 leaves_by true c c' taken typed store t clean done h = plainly taken typed store t h.1 refl clean done
 leaves_by false c c' taken typed store t clean done h = plainly taken typed store t h.1 refl clean done
@@ -249,6 +265,8 @@ moves {A} turns (ways.Telling answer more note) c c' taken typed store t e bytes
     plainly taken typed store t h.1 refl clean (regroup A taken c.journal more typed (with_store c.machine store) t done)
 moves {A} turns (ways.Asking line image more) c c' taken typed store t e bytes clean done h =
     answered_by (slice_get c.waiting 0) line image more c c' taken typed store t clean done.0 done.1 done.2 done.3 (subst (λ (w : Way A). Answers w c c') e h)
+moves turns (ways.Unmounting drive is_agreed) c c' taken typed store t e bytes clean done h = unmounts_by (loses is_agreed drive c) drive c c' taken typed store t clean done.0 done.1 h
+moves turns (ways.Doubting drive) c c' taken typed store t e bytes clean done h = consents_by (slice_get c.waiting 0) drive c c' taken typed store t clean done.0 done.1 h
 moves turns ways.Leaving c c' taken typed store t e bytes clean done h = leaves c c' taken typed store t clean done h
 moves turns (ways.Fetching line more) c c' taken typed store t e bytes clean done h = absurd h
 moves turns (ways.Putting line image more is_agreed) c c' taken typed store t e bytes clean done h = absurd h

@@ -107,6 +107,10 @@ Now {A} (ways.Putting line image more is_agreed) text typed machine store t =
     Again A text typed (with_store machine store) t × (more ≡ ended line) × IsSaving line image machine × FitsGrammar line
 Now {A} (ways.Asking line image more) text typed machine store t =
     Again A text typed (with_store machine store) t × (more ≡ ended line) × IsSaving line image machine × FitsGrammar line
+Now {A} (ways.Unmounting drive is_agreed) text typed machine store t =
+    Again A text typed (with_store machine store) t × FitsGrammar {A = A} (lines.Unmount drive)
+Now {A} (ways.Doubting drive) text typed machine store t =
+    Again A text typed (with_store machine store) t × FitsGrammar {A = A} (lines.Unmount drive)
 Now {A} way text typed machine store t = Again A text typed (with_store machine store) t
 
 abbrev pub Stands : {A : Type 0} → Way A → List ℕ → List ℕ → State → StoreState → SessionState → Type 0
@@ -127,6 +131,8 @@ is_plain_way (ways.Telling answer text note) = false
 is_plain_way (ways.Fetching line text) = false
 is_plain_way (ways.Putting line image text is_agreed) = false
 is_plain_way (ways.Asking line image text) = false
+is_plain_way (ways.Unmounting drive is_agreed) = false
+is_plain_way (ways.Doubting drive) = false
 is_plain_way way = true
 
 pub more_none : (A : Type 0) (text typed : List ℕ) (s t : SessionState) → Again A text typed s t → Again A text (typed ++ []) s t
@@ -140,6 +146,8 @@ plain_stands (ways.Telling answer more note) text typed machine store t e done =
 plain_stands (ways.Fetching line more) text typed machine store t e done = cc
 plain_stands (ways.Putting line image more is_agreed) text typed machine store t e done = cc
 plain_stands (ways.Asking line image more) text typed machine store t e done = cc
+plain_stands (ways.Unmounting drive is_agreed) text typed machine store t e done = cc
+plain_stands (ways.Doubting drive) text typed machine store t e done = cc
 plain_stands {A} way text typed machine store t e done = more_none A text typed (with_store machine store) t done
 
 pub plain_holds : {A : Type 0} (way : Way A) (text typed : List ℕ) (machine : State) (store : StoreState) (t : SessionState) → is_plain_way way ≡ true → machine.bus.typed ≡ [] → Again A text typed (with_store machine store) t → Holds way text (typed ++ typed_on way) machine store t
@@ -193,6 +201,8 @@ now_still {A} (ways.Telling answer more note) text typed machine store store' t 
 now_still {A} (ways.Fetching line more) text typed machine store store' t e h = (unseen A text typed (with_store machine store) (with_store machine store') t (refl, e) h.0, h.1, h.2, h.3)
 now_still {A} (ways.Putting line image more is_agreed) text typed machine store store' t e h = (unseen A text typed (with_store machine store) (with_store machine store') t (refl, e) h.0, h.1, h.2, h.3)
 now_still {A} (ways.Asking line image more) text typed machine store store' t e h = (unseen A text typed (with_store machine store) (with_store machine store') t (refl, e) h.0, h.1, h.2, h.3)
+now_still {A} (ways.Unmounting drive is_agreed) text typed machine store store' t e h = (unseen A text typed (with_store machine store) (with_store machine store') t (refl, e) h.0, h.1)
+now_still {A} (ways.Doubting drive) text typed machine store store' t e h = (unseen A text typed (with_store machine store) (with_store machine store') t (refl, e) h.0, h.1)
 now_still {A} way text typed machine store store' t e h = unseen A text typed (with_store machine store) (with_store machine store') t (refl, e) h
 
 stands_still : {A : Type 0} (way : Way A) (text typed : List ℕ) (machine : State) (store store' : StoreState) (t : SessionState) → store'.files ≡ store.files → Stands way text typed machine store t → Stands way text typed machine store' t

@@ -13,7 +13,7 @@ use Rattle.p11_console.specs.Files.{Gives, GivesScript, Names, Takes, TakesPut}
 use Rattle.p11_console.specs.Lines.{behind_at, behind_line, is_line_feed}
 use Rattle.p11_console.specs.Runs.{behind_escape, without_interrupt}
 use Rattle.p11_console.specs.State.{ConsoleState}
-use Rattle.p11_console.specs.Steps.{Answers, AnswersBy, Begins, Completes, DoesGiven, DoesMeant, DoesPhrase, DoesScripted, FindsLine, Leaves, LeavesBy, Moves, Reads, ReadsAs, Runs, RunsBy, Steps, StepsAgain, TakesKey, TicksIn, Types, course_now, has_given, has_scripted, has_some, is_by_person, steps_again}
+use Rattle.p11_console.specs.Steps.{Answers, AnswersBy, Begins, Completes, Consents, DoesGiven, DoesMeant, DoesPhrase, DoesScripted, FindsLine, Leaves, LeavesBy, Moves, Reads, ReadsAs, Runs, RunsBy, Steps, StepsAgain, TakesKey, TicksIn, Types, UnmountsBy, course_now, has_given, has_scripted, has_some, is_by_person, loses, steps_again}
 use Rattle.p11_console.specs.declared.run.Course.{Course}
 use Rattle.p11_console.specs.declared.run.Course.TheVariants as course
 use Rattle.p11_console.specs.declared.run.Run.{Run}
@@ -97,6 +97,14 @@ answers_bytes : {A : Type 0} (found : Option ℕ) (line : Line A) (image more : 
 answers_bytes None line image more c c' bytes h = as_before h.2 bytes
 answers_bytes (Some byte) line image more c c' bytes h = as_before h.1 (dropped 1 c.waiting bytes)
 
+unmounts_bytes : {A : Type 0} (b : Bool) (drive : ℕ) (c c' : ConsoleState A) → Waits c → UnmountsBy b drive c c' → Waits c'
+unmounts_bytes true drive c c' bytes h = as_before h.1 bytes
+unmounts_bytes false drive c c' bytes h = as_before h.1 bytes
+
+consents_bytes : {A : Type 0} (found : Option ℕ) (drive : ℕ) (c c' : ConsoleState A) → Waits c → Consents found drive c c' → Waits c'
+consents_bytes None drive c c' bytes h = as_before h.2 bytes
+consents_bytes (Some byte) drive c c' bytes h = as_before h.1 (dropped 1 c.waiting bytes)
+
 leaves_bytes : {A : Type 0} (b : Bool) (c c' : ConsoleState A) → Waits c → LeavesBy b c c' → Waits c'
 leaves_bytes true c c' bytes h = as_before h.1 bytes
 leaves_bytes false c c' bytes h = as_before h.1 bytes
@@ -114,6 +122,8 @@ moves_bytes turns (ways.Sliced run answer) c c' e bytes h = as_before h bytes
 moves_bytes turns (ways.Stopped stop more) c c' e bytes h = as_before h.1 bytes
 moves_bytes turns (ways.Telling answer more note) c c' e bytes h = as_before h.1 bytes
 moves_bytes {A} turns (ways.Asking line image more) c c' e bytes h = answers_bytes (slice_get c.waiting 0) line image more c c' bytes (subst (λ (w : Way A). Answers w c c') e h)
+moves_bytes turns (ways.Unmounting drive is_agreed) c c' e bytes h = unmounts_bytes (loses is_agreed drive c) drive c c' bytes h
+moves_bytes turns (ways.Doubting drive) c c' e bytes h = consents_bytes (slice_get c.waiting 0) drive c c' bytes h
 moves_bytes turns ways.Leaving c c' e bytes h = leaves_bytes _ c c' bytes h
 moves_bytes turns (ways.Fetching line more) c c' e bytes h = absurd h
 moves_bytes turns (ways.Putting line image more is_agreed) c c' e bytes h = absurd h

@@ -38,7 +38,7 @@ pub(crate) struct Launch<'a> {
 }
 
 /// The version that `--version` shows.
-pub(crate) const VERSION: &str = "1.0.0";
+pub(crate) const VERSION: &str = "1.1.0";
 
 const MEMORY: u32 = 28;
 

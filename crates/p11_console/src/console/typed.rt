@@ -121,7 +121,7 @@ fn answer_text(is_agreed: bool) -> &'static [u8] {
 }
 
 /// `y` and `Y`.
-fn agrees(byte: u8) -> bool
+pub(super) fn agrees(byte: u8) -> bool
     ensures { result ≡ agrees byte }
 {
     byte == b'y' || byte == b'Y'
