@@ -7,12 +7,12 @@ const { sleep } = require('./page.js');
 const { play, stateOf, STATE } = require('./compare.js');
 const { settle, kept } = require('./evening.js');
 
-const TURNS = 50000000, MOST_MS = 2000, TRIES = 3, KILLS = 4, MOST_WAIT = 2500;
+const LINES = 100, TURNS = 50000000, MOST_MS = 2000, TRIES = 3, KILLS = 4, MOST_WAIT = 2500;
 const COUNTS = 'deposit 1000 5267 1000 5200 10021 20127 20000 103402 12701 4000 766\rset 1 4000\rstart 1000\r';
 const record = (page) => page.eval("app.link.ask('record')");
 const turnsOf = (page) => page.eval("app.link.ask('regs').then((it) => it.turns)");
-const attempt = (page, line) => page.eval(`app.console.attempt(${JSON.stringify(line)})`);
-const isBack = (page) => page.until('app.back && !app.console.isHeld && app.link.asked.size === 0');
+const attempt = (page, line) => page.eval(`app.desk.command(${JSON.stringify(line)})`);
+const isBack = (page) => page.until('app.back && !app.desk.isHeld && app.link.asked.size === 0');
 
 // Until the pages are kept too, as the machine is now, between two runs.
 async function keptWhole(page) {
@@ -42,7 +42,7 @@ async function back({ page, url, say }) {
     }
     await page.replace();
     await page.navigate(url);
-    await page.until("globalThis.app?.console !== undefined && document.querySelector('#keys').value === ' '");
+    await page.until("globalThis.app?.desk !== undefined && document.querySelector('#keys').value === ' '");
     await page.click('#screen');
     await page.type('examine 1000\r');
     await isBack(page);
@@ -50,7 +50,7 @@ async function back({ page, url, say }) {
     const times = [(await page.eval('app.back')).ms];
     assert.equal(await page.eval('app.back.isRevived'), isRevived, 'the session is back by the other way');
     const now = await record(page);
-    assert(now.startsWith(was) && now.endsWith('\nexamine 1000\n'), 'the record is another');
+    assert(now.startsWith(was) && now.endsWith('\nexamine 1000 1\n'), 'the record is another');
     assert.equal(await stateOf(page), state, 'registers, devices or memory are others');
     while (isRevived && times.at(-1) >= MOST_MS && times.length < TRIES) {   // the computer has more to do
       await keptWhole(page);
@@ -75,11 +75,33 @@ async function stopped({ page, url, say }) {
   await page.navigate(url);
   await page.until("document.querySelector('#offer progress')?.value > 0");
   await page.click('#offer button');
-  await page.until("app.store.session && !app.console.isHeld && app.view.text().trimEnd().endsWith('p11>')");
+  await page.until("app.store.session && !app.desk.isHeld && app.view.text().trimEnd().endsWith('p11>')");
   assert.notEqual(await page.eval('app.store.session.id'), first);
   assert(await page.eval(`app.store.kept(${first}).then((it) => it !== null)`), 'the session that was stopped is gone');
   await page.eval(`app.store.forget(${first})`);
   say('a long record is played with how far it is, and a button ends that');
+}
+
+// A script that was under way when the page was closed goes on, and nothing of it is done twice or left out.
+async function scripted({ page, url, say }) {
+  await page.goTo(url);
+  await page.eval('app.sessions.fresh(28)');
+  for (const line of COUNTS.trim().split('\r')) await attempt(page, line);
+  const was = await record(page), numbers = Array.from({ length: LINES }, (_, n) => (n + 1).toString(8));
+  const script = numbers.map((number) => `continue 1000000\ndeposit 5000 ${number}\n`).join('');
+  await page.eval(`(async () => { await app.link.ask('put', { name: 'long', bytes: new TextEncoder().encode(${JSON.stringify(script)}) }); app.desk.type('do long'); })()`);
+  await page.until('app.store.kept(app.store.session.id).then(({ lines, pages }) => lines.length > 10 && pages?.head.state.own.isScripted)');
+  await page.replace();
+  await page.navigate(url);
+  await isBack(page);
+  assert(await page.eval('app.back.isRevived'), 'the session is not back by its pages');
+  const wanted = was + numbers.map((number) => `step 1000000\ndeposit 5000 ${number}\n`).join('');
+  await page.until(`app.link.ask('record').then((it) => it.length >= ${wanted.length})`);
+  assert.equal(await record(page), wanted, 'the record is another');
+  await keptWhole(page);
+  const kept = await page.eval("app.store.kept(app.store.session.id).then(({ lines }) => lines.map((line) => line + '\\n').join(''))");
+  assert.equal(kept, wanted, 'the record that is kept is another');
+  say(`a script of ${2 * LINES} lines goes on where the page was closed in it`);
 }
 
 // The browser is killed at random moments of a run in which keys are pressed and a pack is written to: what was kept is there, and the
@@ -94,17 +116,19 @@ async function kills({ command, url, native, say, count = KILLS }) {
       else {
         await isBack(page);
         revived += await page.eval('app.back.isRevived');
-        await page.eval('app.console.halt()');
+        await page.eval('app.desk.halt()');
         const turns = await turnsOf(page), [state, script] = [await stateOf(page), await record(page)];
         assert(turns >= told, `after kill ${n} ${told} turns were told, and ${turns} are there`);
         assert(play(script, native).endsWith(state), `after kill ${n} ./p11 comes to another state`);
       }
       for (const line of COUNTS.trim().split('\r')) await attempt(page, line);
       await page.eval("app.setClock(60)");
-      await page.eval('app.console.talk()');
+      await page.eval('app.desk.talk()');
       for (const end = Date.now() + Math.random() * MOST_WAIT; Date.now() < end;) {
-        await page.eval("app.link.ask('keys', { bytes: [120] }).then(() => app.store.last)");
-        told = await page.eval('app.store.session.turns');
+        told = await page.eval(`(async () => { await app.link.ask('keys', { bytes: [120] });
+          const { turns } = app.store.session;
+          await app.store.last;
+          return turns; })()`);
         await sleep(20);
       }
       await page.kill();
@@ -117,4 +141,4 @@ async function kills({ command, url, native, say, count = KILLS }) {
   say(`the browser was killed ${count} times: nothing that was kept is lost, ${revived} times the session was back by its pages, and ./p11 comes to the same`);
 }
 
-module.exports = { back, stopped, kills };
+module.exports = { back, stopped, scripted, kills };

@@ -40,9 +40,9 @@ async function badFiles({ page, native: { folder }, say }) {
   say('files that are no pack, tape or script are refused with what they are, and a wrong tape with its byte; in doubt it is asked');
 }
 
-// The call by which the session asks how many keys wait is a trap here.
+// The call by which the line clock ticks is a trap here.
 async function trap({ page, made, native: { folder }, say }) {
-  const module = trapped(fs.readFileSync(path.join(made, 'site/p11.wasm')), 'p11_keys_waiting').toString('base64');
+  const module = trapped(fs.readFileSync(path.join(made, 'site/p11.wasm')), 'p11_console_ticked').toString('base64');
   await page.eval(`(async () => {
     globalThis.sound = app.module;
     app.module = Uint8Array.from(atob('${module}'), (c) => c.charCodeAt(0));
@@ -51,8 +51,8 @@ async function trap({ page, made, native: { folder }, say }) {
   })()`);
   await page.click('#screen');
   await page.type('deposit 1000 777\rstart 1000\rtalk\r');
-  await page.until('app.console.isRunning');
-  await page.type('x');
+  await page.until('app.desk.isRunning');
+  await page.eval('app.setClock(60)');
   await page.until("app.view.text().includes('The machine is lost')");
   await page.until("!document.querySelector('#offer').hidden");
   const record = withoutRemark((await downloaded(page, folder, '#offer button', 'lost.p11')).toString('latin1'));

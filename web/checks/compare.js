@@ -35,7 +35,7 @@ const heard = (page) => page.eval('globalThis.heard');
 async function stateOf(page) {
   return page.eval(`(async () => {
     let all = '';
-    for (const line of ${JSON.stringify(STATE)}) all += (await app.link.ask('line', { line })).answer;
+    for (const line of ${JSON.stringify(STATE)}) all += (await app.desk.command(line, true)).answer;
     return all;
   })()`);
 }

@@ -16,10 +16,11 @@ async function cuts({ page, url, say }) {
     all += count;
     say(`${name}: ${turns.toLocaleString('en')} turns and ${typed.toLocaleString('en')} typed bytes, cut ${count} times: each byte of the module's memory is the same`);
   }
-  for (const plant of ['page', 'steps']) {
+  for (const plant of ['page', 'lines']) {
     assert(!(await cut(1, 'kernel', { isBusy: true, plant })).isSame, `the planted fault "${plant}" is not seen`);
   }
   assert(await page.eval(`tails({ seed: 1, count: ${TAILS} })`), 'what was recorded since the last save comes to another state');
+  assert(!await page.eval(`tails({ seed: 1, count: ${TAILS}, plant: true })`), 'turns that are made twice are not seen');
   say(`${all} cuts and ${TAILS} of a save with what was recorded since: nothing differs, and planted faults are seen`);
 }
 

@@ -89,7 +89,7 @@ async function evening({ page, url, native, examples, say }) {
   await page.type('e 3000\r');
   await page.until("heard.includes('003000 000456')");
   await page.type('\x05');
-  await page.until("!app.console.isRunning");
+  await page.until("!app.desk.isRunning");
   say('the page was closed and opened again, and the session went on');
 
   // A pack whose name has a blank, on drive 1 (bits 15:13 of the disk address): a word is written to sector 5.

@@ -59,13 +59,13 @@ async function packs() {
   await app.sessions.fresh(28);
   for (let drive = 0; drive < 8; drive++) {
     await app.link.ask('put', { name: `pack${drive}`, bytes: new Uint8Array(2494464).fill(drive + 1) });
-    await app.link.ask('line', { line: `mount ${drive} pack${drive} rw` });
+    await app.desk.command(`mount ${drive} pack${drive} rw`, true);
   }
   const eight = await app.link.ask('memory');
   let save = 0;
   for (let n = 0; n < 10; n++) {
     const began = performance.now();
-    await app.link.ask('line', { line: 'save 0 saved' });
+    await app.desk.command('save 0 saved', true);
     await app.link.ask('file', { name: 'saved' });
     save = performance.now() - began;
   }
@@ -78,8 +78,8 @@ async function keys() {
   const page = await opened(), { app, document } = page;
   await app.sessions.fresh(28);
   for (const line of ['deposit 60 2000 200', 'deposit 1000 12737 100 177560 5201 776',
-    'deposit 2000 113700 177562 105737 177564 100375 110037 177566 2', 'set 6 1000', 'start 1000']) await app.link.ask('line', { line });
-  await app.console.talk();
+    'deposit 2000 113700 177562 105737 177564 100375 110037 177566 2', 'set 6 1000', 'start 1000']) await app.desk.command(line, true);
+  await app.desk.talk();
   const now = document.querySelector('.now'), times = [];
   await sleep(500);
   for (let n = 0; n < 40; n++) {
@@ -89,7 +89,7 @@ async function keys() {
     times.push(performance.now() - began);
     await sleep(37);
   }
-  await app.console.halt();
+  await app.desk.halt();
   return { median: median(times), most: Math.max(...times) };
 }
 

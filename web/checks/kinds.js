@@ -1,18 +1,13 @@
-// node kinds.js EXAMPLES: what the page takes a file for, by itself: packs, tapes, scripts, and files that are neither. Exit status 1:
-// one is taken for something else.
+// What the page takes a file for: packs, tapes, scripts, and files that are neither. Of lines and tapes its engine asks a console.
 'use strict';
-const assert = require('assert'), fs = require('fs'), path = require('path'), vm = require('vm');
+const assert = require('assert'), fs = require('fs'), path = require('path');
 
-const source = ['reasons', 'kinds'].map((name) => fs.readFileSync(path.join(__dirname, `../page/${name}.js`), 'utf8')).join('');
-const kindOf = vm.runInNewContext(`${source}; kindOf`, { TextDecoder });
-const examples = (name) => fs.readFileSync(path.join(process.argv[2], name));
 const text = (it) => Buffer.from(it, 'latin1');
 const behind = (before, bytes) => Buffer.concat([Buffer.from(before), bytes]);
 const sectors = (count) => Buffer.alloc(512 * count, '\xa0\x00\x17\x08', 'latin1');
-const tape = examples('greeting.tape'), node = fs.readFileSync(process.execPath).subarray(0, 51200);
 
 // Name, bytes, and what it is: a kind, a kind with what is asked, or what is said.
-const CASES = [
+const casesOf = (examples, tape, node) => [
   ['v6.rk05', sectors(4872), 'pack'], ['v6', sectors(4872), 'pack'], ['short.dsk', sectors(3), 'pack'], ['zeros.rk05', Buffer.alloc(2494464), 'pack'],
   ['evening.pack', examples('evening.pack'), 'pack'], ['boot.pack', examples('boot.pack'), /boot\.pack has 50 bytes, which aren't whole sectors of 512$/],
   ['something', sectors(3), /something has 1,536 bytes, and neither the size nor the name of a pack$/],
@@ -28,9 +23,17 @@ const CASES = [
   ['mine.p11z', text('PK\x03\x04\x14\0'), 'packed'], ['nothing', Buffer.alloc(0), /nothing has no bytes$/],
 ];
 
-for (const [name, bytes, wanted] of CASES) {
-  const found = kindOf(name, new Uint8Array(bytes)), told = found.refused ?? found.doubt ?? found.kind;
-  if (wanted instanceof RegExp) assert.match(told, wanted);
-  else assert.equal(told, wanted, `${name}, of ${bytes.length} bytes`);
+async function kinds({ page, examples, say }) {
+  const read = (name) => fs.readFileSync(path.join(examples, name)), node = fs.readFileSync(process.execPath).subarray(0, 51200);
+  const all = casesOf(read, read('greeting.tape'), node);
+  for (const [name, bytes, wanted] of all) {
+    const found = await page.eval(`kindOf(${JSON.stringify(name)}, Uint8Array.from(atob('${bytes.toString('base64')}'), (c) => c.charCodeAt(0)),
+      (line, tape) => app.link.ask('answer', { line, bytes: tape }))`);
+    const told = found.refused ?? found.doubt ?? found.kind;
+    if (wanted instanceof RegExp) assert.match(told, wanted);
+    else assert.equal(told, wanted, `${name}, of ${bytes.length} bytes`);
+  }
+  say(`${all.length} files are taken for what they are`);
 }
-console.log(`web/check: ${CASES.length} files are taken for what they are`);
+
+module.exports = { kinds };

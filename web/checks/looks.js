@@ -89,7 +89,7 @@ async function glass({ page, say }) {
   await page.compose('c');
   await shows('p11> ^C');
   await page.click('[data-boot=echo]');
-  await page.until('app.console.isRunning && app.link.asked.size === 0 && !app.console.isBrief');
+  await page.until('app.desk.isTalk && app.link.asked.size === 0');
   await page.click('#screen');
   const record = () => page.eval("app.link.ask('record')");
   await page.compose('phone');
@@ -101,7 +101,7 @@ async function glass({ page, say }) {
   const keys = [...(await record()).matchAll(/^key (.*)$/gm)].map(([, text]) => text).join('');
   assert(keys.endsWith('phone\\011\\033\\033[D'), `other keys came to the machine: ${keys}`);
   await page.click('#console');
-  await page.until('!app.console.isRunning');
+  await page.until('!app.desk.isRunning');
   await page.resize();
   say('text that is composed comes to the console and to the machine, and Ctrl, Tab, Esc and arrows are buttons');
 }

@@ -8,9 +8,9 @@ const { downloaded, settle } = require('./evening.js');
 
 const TOP = path.join(__dirname, '../..');
 const note = (page, text) => page.until(`document.querySelector('#note').textContent.includes(${JSON.stringify(text)})`);
-const hellos = (page, count) => page.until(`app.view.text().split('HELLO FROM THE PACK').length - 1 === ${count} && !app.console.isRunning`);
+const hellos = (page, count) => page.until(`app.view.text().split('HELLO FROM THE PACK').length - 1 === ${count} && !app.desk.isRunning`);
 // Until a session that was dropped is there, and its script is done.
-const isOpen = (page, name) => page.until(`app.store.session?.title === '${name}' && !app.console.isHeld && !app.console.isRunning
+const isOpen = (page, name) => page.until(`app.store.session?.title === '${name}' && !app.desk.isHeld && !app.desk.isRunning
   && app.link.asked.size === 0 && app.view.text().trimEnd().endsWith('p11>')`);
 const p11 = (file) => spawnSync(path.join(TOP, 'p11'), [file], { maxBuffer: 1 << 28, encoding: 'latin1' });
 
@@ -22,7 +22,7 @@ async function packed({ page, url, native: { folder }, say }) {
   await page.eval("{ heard = ''; document.querySelector('[data-boot=boot]').click(); }");
   await hellos(page, 1);
   await settle(page);
-  await page.eval("app.console.attempt('deposit 5000 1234')");
+  await page.eval("app.desk.command('deposit 5000 1234')");
   const typed = await heard(page), state = await stateOf(page);
   fs.writeFileSync(file('mine.p11z'), await downloaded(page, folder, '#packed', 'session.p11z'));
   execFileSync('unzip', ['-tqq', file('mine.p11z')]);
@@ -39,7 +39,7 @@ async function packed({ page, url, native: { folder }, say }) {
   assert.equal(p11(file('made.p11z')).stdout, fs.readFileSync(path.join(TOP, 'examples/boot.out'), 'latin1'));
   await page.drop(file('made.p11z'));
   await isOpen(page, 'made.p11z');
-  assert.equal(await page.eval("app.link.ask('line', { line: 'examine 757776' }).then(({ answer }) => answer)"), 'EXAM 757776 000000\n');
+  assert.equal(await page.eval("app.desk.command('examine 757776').then(({ answer }) => answer)"), 'EXAM 757776 000000\n');
   say('what examples/pack-up makes is played by ./p11 and by the page, with the memory that it names');
 
   const bad = async (name, files, said, told) => {
@@ -69,11 +69,11 @@ async function lesson({ page, made, native: { folder }, say }) {
   await opens('one.html');
   await hellos(page, 1);
   assert.equal(await page.eval('document.title'), 'First <lesson>');
-  await page.eval("app.console.attempt('deposit 5000 4321')");
+  await page.eval("app.desk.command('deposit 5000 4321')");
   fs.writeFileSync(path.join(folder, 'two.html'), await downloaded(page, folder, '#page', 'lesson.html'));
   await opens('two.html');
   await hellos(page, 1);
-  await page.eval("app.console.attempt('examine 5000')");
+  await page.eval("app.desk.command('examine 5000')");
   await page.until("app.view.text().includes('EXAM 005000 004321')");
   say('a page with a program of web/with, and one of the page\'s own button, boot it when they are opened');
 }

@@ -13,14 +13,14 @@ async function presses({ page, say }) {
   for (let n = 0; n < PRESSES; n++) {
     await page.click('#screen');
     await page.type('deposit 1000 777\rstart 1000\rtalk\r');
-    await page.until('app.console.isRunning && app.panel.lamps.isRunning && app.panel.lamps.rate > 0');
+    await page.until('app.desk.isRunning && app.panel.lamps.isRunning && app.panel.lamps.rate > 0');
     const machine = await page.eval('app.sessions.machine'), isBoot = n % 2 === 1, hellos = await count('HELLO FROM THE PACK');
     if (n % 4 >= 2) await page.eval(`document.querySelector('${isBoot ? '#fresh' : '[data-boot=boot]'}').click()`);
     await page.click(isBoot ? '[data-boot=boot]' : '#fresh');
     await page.until(`app.sessions.machine > ${machine}`);
     if (isBoot) await more('HELLO FROM THE PACK', hellos);
     await settle(page);
-    await page.until('!app.console.isRunning && !app.panel.lamps.isRunning');
+    await page.until('!app.desk.isRunning && !app.panel.lamps.isRunning');
     const answers = await count('EXAM 005000 000000');
     await page.click('#screen');
     await page.type('examine 5000\r');

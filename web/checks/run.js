@@ -1,5 +1,5 @@
-// node run.js PAGE P11 TERMINAL EXAMPLES CASES SUM RECORD COMMAND..: all checks of the page in each of the browsers (COMMAND).
-// PAGE is what web/build made (site/ and p11.html), SUM one word for it (web/checked); P11 and TERMINAL are the native programs,
+// node run.js PAGE P11 EXAMPLES CASES SUM RECORD COMMAND..: all checks of the page in each of the browsers (COMMAND).
+// PAGE is what web/build made (site/ and p11.html), SUM one word for it (web/checked); P11 is the native program,
 // CASES is what examples/c/cases wrote. What passed is written to RECORD, for web/checked. Exit status 1: a check failed.
 'use strict';
 const fs = require('fs'), os = require('os'), path = require('path');
@@ -7,25 +7,28 @@ const { open } = require('./browser.js');
 const { serve } = require('./serve.js');
 const { evening } = require('./evening.js');
 const { boots } = require('./boots.js');
-const { words } = require('./words.js');
+const { dialogues } = require('./dialogues.js');
+const { kinds } = require('./kinds.js');
 const { badFiles, trap, policy, lacking } = require('./bad.js');
 const { looks, names, keyboard, glass } = require('./looks.js');
 const { tabs, list, full, earlier } = require('./tabs.js');
 const { presses } = require('./presses.js');
+const { editing, asked } = require('./editing.js');
 const { cases } = require('./cases.js');
-const { back, stopped, kills } = require('./back.js');
+const { back, stopped, scripted, kills } = require('./back.js');
 const { cuts } = require('./cuts.js');
 const { random } = require('./random.js');
 const { packed, lesson } = require('./packed.js');
 const { plays, link, beside, pace, sizes, copies, single } = require('./ways.js');
 
 // All checks in one browser: its name with its version, how many different sessions it played, and how many lines they have.
-async function checked(command, { made, p11, terminal, examples, casesFile }) {
+async function checked(command, { made, p11, examples, casesFile }) {
   const folder = fs.mkdtempSync(path.join(os.tmpdir(), 'p11-web-')), began = Date.now();
-  const server = await serve({ '/': path.join(made, 'site'), '/examples/': examples, '/tests/': __dirname, '/data/': path.dirname(casesFile) });
+  const server = await serve({ '/': path.join(made, 'site'), '/examples/': examples, '/tests/': __dirname, '/data/': path.dirname(casesFile),
+    '/talks/': path.resolve(examples, '../crates/p11_talks/data') });
   const url = `http://127.0.0.1:${server.address().port}/`;
   const page = await open(url, { downloads: folder, command });
-  const native = { p11: path.resolve(p11), terminal: path.resolve(terminal), folder };
+  const native = { p11: path.resolve(p11), folder };
   const say = (text) => console.log(`web/check: ${page.product}: ${text}`);
   const all = { page, url, made, command, examples: path.resolve(examples), native, say };
   let test = evening;
@@ -35,9 +38,9 @@ async function checked(command, { made, p11, terminal, examples, casesFile }) {
   };
   try {
     await run(plays, await run(evening));
-    for (const next of [boots, presses, words, badFiles, keyboard, names, looks, glass, pace, sizes, copies]) await run(next);
+    for (const next of [boots, editing, asked, presses, kinds, badFiles, keyboard, names, looks, glass, pace, sizes, copies]) await run(next);
     for (const next of [link, beside, tabs, list, full, earlier, policy, lacking]) await run(next);
-    for (const next of [packed, back, stopped, kills, cuts, random]) await run(next);
+    for (const next of [packed, back, stopped, scripted, kills, cuts, random, dialogues]) await run(next);
     const told = await run(cases);
     await run(single);
     await run(lesson);
@@ -58,9 +61,9 @@ async function checked(command, { made, p11, terminal, examples, casesFile }) {
   }
 }
 
-async function run([made, p11, terminal, examples, casesFile, sum, record, ...commands]) {
+async function run([made, p11, examples, casesFile, sum, record, ...commands]) {
   const passed = [];
-  for (const command of commands) passed.push(await checked(command, { made, p11, terminal, examples, casesFile }));
+  for (const command of commands) passed.push(await checked(command, { made, p11, examples, casesFile }));
   const [{ sessions, lines }] = passed;
   for (const it of passed) if (it.sessions !== sessions || it.lines !== lines) throw new Error(`${it.browser} played ${it.sessions} sessions`);
   const told = { page: sum, sessions, lines, records: passed.length, browsers: passed.map(({ browser }) => browser) };

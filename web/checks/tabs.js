@@ -5,7 +5,7 @@ const assert = require('assert');
 const { downloaded, kept } = require('./evening.js');
 const { withoutRemark } = require('./compare.js');
 
-const attempt = (page, line) => page.eval(`app.console.attempt(${JSON.stringify(line)})`);
+const attempt = (page, line) => page.eval(`app.desk.command(${JSON.stringify(line)})`);
 const shows = (page, text) => page.until(`app.view.text().includes(${JSON.stringify(text)})`);
 const idOf = (page) => page.eval('app.store.session.id');
 

@@ -52,13 +52,12 @@ function trapped(module, name) {
     const size = reader.number();
     reader.at += size;
   }
-  reader.number();
+  const size = reader.number(), end = reader.at + size - 1;
   for (let locals = reader.number(); locals > 0; locals--) {
     reader.number();
     reader.byte();
   }
-  bytes[reader.at] = UNREACHABLE;
-  return bytes;
+  return bytes.fill(UNREACHABLE, reader.at, end);
 }
 
 module.exports = { trapped };

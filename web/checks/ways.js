@@ -12,7 +12,7 @@ async function plays({ page, native: { folder }, record, answers, say }) {
   const file = path.join(folder, 'again.p11');
   fs.writeFileSync(file, record, 'latin1');
   await page.drop(file);
-  await page.until(`heard.length >= ${typedIn(answers).length} && !app.console.isRunning`, 60000);
+  await page.until(`heard.length >= ${typedIn(answers).length} && !app.desk.isRunning && app.view.text().trimEnd().endsWith('p11>')`, 60000);
   assert.equal(await page.eval('heard'), typedIn(answers), 'the record types something else in the page');
   const again = (await downloaded(page, folder, '#record', 'session.p11')).toString('latin1');
   assert.equal(again, record, 'the record of a played record is another');
@@ -39,7 +39,7 @@ async function beside({ page, url, examples, say }) {
   const hellos = (count) => page.until(`app.view.text().split('HELLO FROM THE PACK').length - 1 === ${count}`);
   await page.goTo(`${url}?pack=examples/boot.pack`);
   await hellos(1);
-  await page.until('!app.console.isRunning');
+  await page.until('!app.desk.isRunning');
   const pack = fs.readFileSync(path.join(examples, 'boot.pack')).toString('base64');
   await page.eval(`app.sessions.use('other.pack', Uint8Array.from(atob('${pack}'), (c) => c.charCodeAt(0)), 'pack', 5)`);
   await page.until("!document.querySelector('li[data-drive=\"5\"] .boot').hidden");
@@ -64,12 +64,12 @@ async function pace({ page, say }) {
   await page.eval("(async () => { await app.sessions.fresh(28); app.setPace(400000); })()");
   await page.click('#screen');
   await page.type('deposit 1000 777\rstart 1000\rtalk\r');
-  await page.until('app.console.isRunning');
+  await page.until('app.desk.isRunning');
   const slow = await rate();
   await page.eval('app.setPace(0)');
   const fast = await rate();
   await page.type('\x05');
-  await page.until('!app.console.isRunning');
+  await page.until('!app.desk.isRunning');
   assert(slow > 50000 && slow < 450000, `${slow} turns a second at a pace of 400,000`);
   assert(fast > 2 * slow, `${fast} turns a second as it goes`);
   say('the governor holds its pace');

@@ -1,12 +1,12 @@
 // The module's memory in pages of 64 KB: those that have changed since they were last taken, found by a sum in the module, with what
-// JavaScript knows of the machine beside them; and a session that goes on from what was taken.
+// JavaScript knows of it beside them; and a host that goes on from what was taken.
 //   const pages = new Pages(exports);   of a new instance of the module
-//   pages.take(session)          { head, isAll, rows: [{ n, bytes }] }; where isAll, what was taken before counts no more
-//   pages.revive(kept, lines)    the session, from { head, rows } and the lines of its record; null where they don't fit together
+//   pages.take(host)          { head, isAll, rows: [{ n, bytes }] }; where isAll, what was taken before counts no more
+//   pages.revive(kept, lines)    the host, from { head, rows } and the lines of its record; null where they don't fit together
 // All is one row, since many rows are slow to read; and so it is again where too many pages have changed since.
 'use strict';
 
-const PAGE_BYTES = 65536, MOST_ROWS = 96, ALL = -1;
+const PAGE_BYTES = 65536, MOST_ROWS = 96, ALL = -1, FORM = 2;   // FORM: of what is kept beside the pages
 
 class Pages {
   constructor(exports) {
@@ -22,7 +22,7 @@ class Pages {
   }
 
   // Between two calls only; null where one has ended before its end.
-  take(session) {
+  take(host) {
     const sums = this.sumsNow(), was = this.sums ?? [];
     if (this.x.__stack_pointer.value !== this.stack) return null;
     const changed = [...sums.keys()].filter((n) => sums[n] !== was[n]);
@@ -32,10 +32,11 @@ class Pages {
     this.sums = sums;
     const copy = (from, end) => new Uint8Array(this.x.memory.buffer).slice(from, end);
     const rows = isAll ? [{ n: ALL, bytes: copy() }] : changed.map((n) => ({ n, bytes: copy(n * PAGE_BYTES, (n + 1) * PAGE_BYTES) }));
-    return { head: { sum: sumOf(sums), count: sums.length, state: stateOf(session) }, isAll, rows };
+    return { head: { sum: sumOf(sums), count: sums.length, form: FORM, state: host.state() }, isAll, rows };
   }
 
   revive({ head, rows }, lines) {
+    if (head.form !== FORM) return null;
     const { memory } = this.x, { state } = head, more = head.count - memory.buffer.byteLength / PAGE_BYTES;
     if (lines.length < state.lines) return null;
     if (more > 0) memory.grow(BigInt(more));
@@ -45,32 +46,9 @@ class Pages {
     if (sums.length !== head.count || sumOf(sums) !== head.sum) return null;
     this.sums = sums;
     this.rows = new Set(rows.map(({ n }) => n).filter((n) => n !== ALL));
-    return sessionOf(this.x, state, lines);
+    return Host.revived(this.x, state, lines);
   }
 }
 
 // One sum over those of all pages.
 const sumOf = (sums) => sums.reduce((all, sum) => BigInt.asUintN(64, (all ^ sum) * 0x9E3779B185EBCA87n + 1n), 0n);
-
-// What JavaScript knows of a session, but for the lines of its record.
-function stateOf({ p11, record, ...session }) {
-  const { x, ...places } = p11;
-  return structuredClone({ places, lines: record.length, session });
-}
-
-// The session in an instance whose memory it is already. A run ends where it was broken off, and keys that waited are dropped.
-function sessionOf(exports, { places, lines, session }, record) {
-  const p11 = Object.assign(Object.create(P11.prototype), { x: exports, ...places });
-  return Object.assign(Object.create(Session.prototype), session, { p11, record: record.slice(0, lines), run: null, keys: [] });
-}
-
-// The lines that were recorded since: of the first runs the turns that were made by then are left out.
-function tailOf({ lines: from, session }, lines, steps) {
-  const script = [...lines.slice(from), ...stepsOf(steps)];
-  for (let made = session.steps; made > 0;) {
-    const turns = +script.shift().split(' ')[1];
-    if (turns > made) script.unshift(`step ${turns - made}`);
-    made -= turns;
-  }
-  return script;
-}

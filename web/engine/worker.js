@@ -1,33 +1,40 @@
-// The engine: a machine in a worker. It takes calls as messages { id, call, args } and answers { id, result } or
+// The engine: a console with its machine in a worker. It takes calls as messages { id, call, args } and answers { id, result } or
 // { id, error }; what happens by itself comes as { event, .. }:
-//   typed { bytes }         the machine typed
-//   stop { text }           a run has ended
-//   line { line, answer }   a line of a script that is played was answered
+//   typed { bytes }, said { text }   the machine has typed, the console has said something
+//   runs { isRunning, isTalk }   a run has begun or ended
+//   rests                   the console wants keys, and something was done since it did
+//   wants { name }          it wants a file that isn't here: the call `found` answers
+//   past { line }           a line for the history
+//   asks { text }           a line of the page has led to this question, which a key answers; '' where it is over
+//   over                    the dialogue is over
 //   lamps { .. }            how often each lamp was lit since the last of them, and the registers
 //   journal { lines, steps, turns, pages }   what the record has gained, and now and then the changed pages of the memory
 //   lost { why }            the module has trapped: this machine is gone
-// Runs are made in slices of some milliseconds, so that a key that comes meanwhile is met at once.
+// Steps are made for some milliseconds at a time, so that a key that comes meanwhile is met at once.
 'use strict';
 
-const SLICE_MS = 4, LAMPS_MS = 33, JOURNAL_MS = 250, PAGES_MS = 1000, MOST_LATE_TICKS = 3;
+const SLICE_MS = 4, LAMPS_MS = 33, JOURNAL_MS = 250, PAGES_MS = 1000, MOST_LATE_TICKS = 3, MOST_STEPS = 20;
 
 class Engine {
   constructor(post) {
     this.post = post;
-    this.session = null;
+    this.host = null;
     this.pages = null;         // what is kept of the module's memory; null where nothing is
     this.opened = 0;           // how many machines were asked for
     this.isLost = false;       // whether the module has trapped under this machine
-    this.kwords = 28;
+    this.isHeld = true;        // whether no step is made
+    this.isWanting = false;    // whether a file is waited for
+    this.isRunning = false;    // as it was told
     this.slice = 20000;        // turns of the next slice
     this.hertz = 0;            // ticks of the line clock in a second of the wall, or 0
     this.pace = 0;             // turns in a second at most, or 0: as fast as it goes
-    this.isQuiet = false;      // whether what a session had done is played again
     this.isKeeping = false;    // whether pages that were taken aren't kept yet
-    this.script = [];          // lines that are still to be played
-    this.scriptDone = null;
-    this.left = null;          // the lines that a session which goes on has still to play
-    this.typed = [];           // what was typed while they are played
+    this.saying = null;        // lines of the page that are typed, and what is said meanwhile
+    this.later = [];           // what is to be done behind them
+    this.isMuted = false;      // whether what is said isn't shown
+    this.typed = null;         // what was typed while a record is played again
+    this.waiters = [];         // who waits until keys are wanted
+    this.restMark = '';        // what there was when they were
     this.lamps = null;
     this.timer = 0;
     this.isAwake = false;
@@ -41,11 +48,17 @@ class Engine {
     setInterval(() => this.journal(), PAGES_MS);
   }
 
-  // Takes a session that is new, or one that goes on, of whose record so many lines are kept: what it has still to play is played quietly.
-  begin(session, pages, lines = 0, left = null) {
-    Object.assign(this, { session, pages: this.sum ? pages : null, left, isLost: false, isQuiet: left !== null, isKeeping: false });
-    this.sent = { lines, turns: session.turns, mark: this.mark() };
-    this.at.rate = session.turns;
+  // Takes a console, of whose record so many lines are kept.
+  begin(host, pages, lines) {
+    const kept = this.sum ? pages : null;
+    this.giveUp();
+    Object.assign(this, { host, pages: kept, isLost: false, isHeld: true, isWanting: false, isKeeping: false, isMuted: false });
+    host.onscreen = (bytes, isTyped) => this.shows(bytes, isTyped);
+    host.onrest = () => this.rests();
+    host.onpast = (line) => this.post({ event: 'past', line });
+    this.sent = { lines, turns: host.turns, mark: this.mark() };
+    this.at.rate = host.turns;
+    this.tellRun();
     this.lit();
   }
 
@@ -53,15 +66,14 @@ class Engine {
   // What isn't a trap is thrown again.
   lose(error) {
     if (!isTrap(error)) throw error;
-    if (this.isLost || !this.session) return;
+    if (this.isLost || !this.host) return;
     this.isLost = true;
-    this.session.run = null;
-    this.script = [];
+    this.giveUp();
     this.post({ event: 'lost', why: String(error.message ?? error) });
   }
 
   wake() {
-    if (this.isAwake || this.isLost || !(this.session?.run || this.scriptDone)) return;
+    if (this.isAwake || this.isLost || this.isHeld || this.isWanting) return;
     this.isAwake = true;
     this.channel.port2.postMessage(0);
   }
@@ -72,55 +84,175 @@ class Engine {
     this.timer = setTimeout(() => this.wake(), ms);
   }
 
+  // Steps, until something is waited for or the time is up.
   go() {
-    if (this.isLost || !this.session || (!this.session.run && !this.playOn())) return;
-    if (!this.session.run) { this.wake(); return; }
-    const now = performance.now();
-    this.tick(now);
-    const most = this.allowed(now);
-    if (most === 0) { this.wakeIn(4); return; }
-    const turns = Math.min(this.slice, most), was = this.session.turns;
-    const { typed, isIdle, stop } = this.session.slice(turns);
-    const took = performance.now() - now, made = this.session.turns - was;
-    if (made === turns) this.slice = nextSlice(turns, took);
-    if (typed.length > 0 && !this.isQuiet) this.post({ event: 'typed', bytes: typed });
-    if (typed.length > 0 && this.isQuiet) this.typed.push(typed);
-    this.sample();
-    const isAsleep = isIdle && !stop && this.session.keys.length === 0;
-    if (stop) this.ended(stop);
-    else if (isAsleep || now - this.at.lamps >= LAMPS_MS) this.lit(now, isAsleep);
-    this.journal(stop !== null || isAsleep);
-    if (!isAsleep) this.wake();
-    else if (this.hertz > 0) this.wakeIn(Math.max(1, this.at.tick - performance.now()));
+    if (this.isLost || this.isHeld || this.isWanting) return;
+    const { host } = this, began = performance.now();
+    this.tick(began);
+    for (let now = began; now - began < SLICE_MS && !this.isHeld; now = performance.now()) {
+      const most = this.allowed(now);
+      if (most === 0) { this.wakeIn(4); this.shown(now); return; }
+      const turns = Math.min(this.slice, most), was = host.turns, want = host.step(turns), made = host.turns - was;
+      if (made === turns) this.slice = nextSlice(turns, performance.now() - now);
+      if (made > 0) {
+        this.at.budget = now;
+        this.sample();
+      }
+      if (host.isRunning !== this.isRunning) this.tellRun();
+      if (host.want !== WANT.step && !this.goesOn(want)) { this.shown(now, want); return; }
+    }
+    this.shown(began);
+    this.wake();
   }
 
-  ended(stop) {
-    if (this.isQuiet) return;
-    if (this.scriptDone) this.post({ event: 'line', line: '', answer: stop });
-    else this.post({ event: 'stop', text: stop });
-    this.lit();
+  // Whether steps go on all the same behind what a step wants.
+  goesOn(want) {
+    const { host } = this;
+    switch (want) {
+      case WANT.keys: case WANT.idle: return host.queue.length > 0 && host.waiting === 0;
+      case WANT.names: host.names(this.ships); return true;
+      case WANT.fetch: this.isWanting = true; this.post({ event: 'wants', name: host.console.name() }); return false;
+      case WANT.end: this.isHeld = true; this.journal(); this.post({ event: 'over' }); return false;
+      case WANT.memory: throw new RangeError('there is no memory for a step');
+      default: return true;
+    }
   }
 
-  // -- the clock of the wall: a line `tick` for each, so it is in the record. Ticks that are late by much are left out.
+  // What is to be told now and then, and at once where something is waited for.
+  shown(now, want = WANT.step) {
+    const rests = want !== WANT.step, isIdle = want === WANT.idle;
+    if (rests || now - this.at.lamps >= LAMPS_MS) this.lit(now, isIdle);
+    this.journal(rests);
+    if (isIdle && this.hertz > 0) this.wakeIn(Math.max(1, this.at.tick - performance.now()));
+  }
+
+  shows(bytes, isTyped) {
+    if (this.typed) { if (isTyped) this.typed.push(bytes); return; }
+    if (isTyped) { this.post({ event: 'typed', bytes }); return; }
+    const text = textOf(bytes);
+    if (this.saying) this.saying.text += text;
+    if (!this.isMuted) this.post({ event: 'said', text });
+  }
+
+  tellRun() {
+    this.isRunning = this.host.isRunning;
+    if (this.typed) return;
+    if (this.isRunning && !this.saying) this.isMuted = false;
+    this.post({ event: 'runs', isRunning: this.isRunning, isTalk: this.isRunning && this.host.isTalk });
+  }
+
+  // -- keys are wanted: lines of the page come next
+  rests() {
+    if (this.host.queue.length > 0) return;
+    if (this.host.isRunning !== this.isRunning) this.tellRun();
+    this.release();
+    if (this.saying) { if (isQuestion(this.saying.text)) this.asks(); else this.nextLine(); }
+    else if (!this.typed) this.isMuted = false;
+    const mark = this.mark();
+    if (this.saying || this.typed || mark === this.restMark) return;
+    this.restMark = mark;
+    this.post({ event: 'rests' });
+  }
+
+  release() { for (const done of this.waiters.splice(0)) done(); }
+
+  // Nobody waits any more.
+  giveUp() {
+    this.release();
+    this.answered();
+    this.saying?.done([]);
+    this.saying = null;
+    for (const it of this.later.splice(0)) it.drop?.();
+  }
+
+  atRest() { return new Promise((done) => { this.waiters.push(done); this.wake(); }); }
+
+  // A line of the page has led to a question: a person answers it, and the lines go on behind that.
+  asks() {
+    const { saying } = this, { text } = saying;
+    if (saying.isAsked) return;
+    saying.isAsked = true;
+    if (this.isMuted) this.post({ event: 'said', text });
+    this.isMuted = false;
+    this.post({ event: 'asks', text: text.slice(text.lastIndexOf('\n') + 1) });
+  }
+
+  // Whether a question stood, which doesn't any more.
+  answered() {
+    if (!this.saying?.isAsked) return false;
+    this.saying.isAsked = false;
+    this.post({ event: 'asks', text: '' });
+    return true;
+  }
+
+  // Keys of a person: one that answers a question goes there, and else they come behind the lines.
+  pressed(bytes) {
+    if (!this.answered()) { this.behind(() => this.host.keys(bytes)); return; }
+    this.host.keys(bytes.slice(0, 1));
+    this.wake();
+  }
+
+  // Does it behind the lines that the page says.
+  behind(act) {
+    if (this.saying) this.later.push(act); else act();
+    this.wake();
+  }
+
+  // Types lines, one after another, up to one that is refused: what is said of each. A talk is ended before them, and goes on behind.
+  say(lines, isSilent) {
+    return new Promise((done) => {
+      const begin = () => {
+        const { host } = this, goesOn = host.isRunning && host.isTalk;
+        this.isMuted = isSilent && (goesOn || host.isAtPrompt);
+        this.saying = { left: [...lines], done, goesOn, text: '', told: null };
+        if (goesOn) host.keys([ESCAPE]);
+        else if (host.want === WANT.keys && host.queue.length === 0) {
+          host.cutLine();
+          if (host.queue.length === 0) this.nextLine();
+        }
+      };
+      begin.drop = () => done([]);
+      this.behind(begin);
+    });
+  }
+
+  nextLine() {
+    const { saying, host } = this;
+    if (saying.told) saying.told.push(saying.text);
+    else {
+      saying.told = [];
+      if (saying.goesOn && !/^STOP key /m.test(saying.text)) {   // the run has ended by itself
+        saying.goesOn = false;
+        if (this.isMuted) this.post({ event: 'said', text: saying.text });
+      }
+    }
+    const line = isRefused(saying.text) && saying.told.length > 0 ? undefined : saying.left.shift();
+    saying.text = '';
+    if (line !== undefined) { host.type(`${line}\r`); return; }
+    this.saying = null;
+    if (saying.goesOn) host.type('talk\r'); else this.isMuted = false;
+    saying.done(saying.told);
+    while (this.later.length > 0 && !this.saying) this.later.shift()();
+  }
+
+  // -- the clock of the wall. Ticks that are late by much are left out.
   tick(now) {
-    if (this.hertz === 0 || this.scriptDone) return;
+    if (this.hertz === 0 || !this.host.isRunning || this.host.isScripted || this.typed) return;
     if (this.at.tick === 0 || now - this.at.tick > 1000 * MOST_LATE_TICKS / this.hertz) this.at.tick = now;
-    for (; this.at.tick <= now; this.at.tick += 1000 / this.hertz) this.session.do('tick');
+    for (; this.at.tick <= now; this.at.tick += 1000 / this.hertz) this.host.ticked();
   }
 
   // -- the governor: how many turns may be made now
   allowed(now) {
-    if (this.pace === 0 || this.scriptDone) return Infinity;
+    if (this.pace === 0 || !this.host.isRunning || this.host.isScripted || this.typed) return MOST_TURNS;
     const passed = Math.min(50, now - this.at.budget);
     const most = Math.floor(this.pace * passed / 1000);
-    if (most < 100) return 0;
-    this.at.budget = now;
-    return most;
+    return most < 100 ? 0 : most;
   }
 
   // -- the lamps: how often each was lit in the slices since the last that were sent
   sample() {
-    const regs = this.session.p11.regs();
+    const regs = this.host.regs();
     this.lamps ??= { count: 0, address: new Array(18).fill(0), data: new Array(16).fill(0), user: 0, virtual: 0, busy: 0 };
     const lamps = this.lamps;
     lamps.count++;
@@ -135,11 +267,9 @@ class Engine {
   }
 
   lit(now = performance.now(), isIdle = false) {
-    if (!this.session) return;
     if (!this.lamps) this.sample();
-    const { turns } = this.session, ms = now - this.at.lamps;
-    const { run, keys } = this.session, rate = (turns - this.at.rate) / ms * 1000;
-    this.post({ event: 'lamps', ...this.lamps, isRunning: run !== null, isIdle, keys: keys.length, rate });
+    const { turns, isRunning, waiting, queue } = this.host, rate = (turns - this.at.rate) / (now - this.at.lamps) * 1000;
+    this.post({ event: 'lamps', ...this.lamps, isRunning, isIdle, keys: waiting + queue.length, rate });
     this.lamps = null;
     this.at.lamps = now;
     this.at.rate = turns;
@@ -148,78 +278,43 @@ class Engine {
   // -- what the record has gained, for whoever keeps it: at once where something was done or the machine waits, else a few times
   // a second
   journal(isNow = true) {
-    if (this.isQuiet || this.isLost || !this.session) return;
-    const { record, steps, turns } = this.session, now = performance.now(), pages = this.changes(now);
+    if (this.isLost || !this.host || this.host.isAgain || this.typed) return;
+    const { record, recorded, turns } = this.host, now = performance.now(), pages = this.changes(now);
     const isDue = isNow || record.length > this.sent.lines || now - this.at.journal >= JOURNAL_MS;
     if (!pages && (!isDue || (record.length === this.sent.lines && turns === this.sent.turns))) return;
     this.at.journal = now;
-    const lines = record.slice(this.sent.lines), gained = { from: this.sent.lines, lines, steps, turns, pages };
+    const lines = record.slice(this.sent.lines), gained = { from: this.sent.lines, lines, steps: turns - recorded, turns, pages };
     this.post({ event: 'journal', ...gained }, pages?.rows.map(({ bytes }) => bytes.buffer) ?? []);
     Object.assign(this.sent, { lines: record.length, turns });
   }
 
   // What changes where the module's memory does.
-  mark() { return [this.session.turns, this.session.record.length, ...this.session.sizes].join(); }
+  mark() { return [this.host.turns, this.host.record.length, ...[...this.host.files].map(([name, { at }]) => name + at)].join(); }
 
   // The pages that have changed, once a second at most, and no others before those are kept.
   changes(now) {
-    if (!this.pages || this.isKeeping || now - this.at.pages < PAGES_MS || this.mark() === this.sent.mark) return null;
-    const taken = this.pages.take(this.session);
+    const isDue = this.pages && !this.isKeeping && now - this.at.pages >= PAGES_MS && !this.saying && this.host.isClean();
+    if (!isDue || this.mark() === this.sent.mark) return null;
+    const taken = this.pages.take(this.host);
     this.sent.mark = this.mark();
     this.at.pages = now;
     this.isKeeping = taken !== null;
     if (taken) Object.assign(taken.head, { module: this.sum, machine: this.opened });
     return taken;
   }
-
-  // -- a script: its lines one after another, each run to its end. Says whether something is left to do.
-  playOn() {
-    if (!this.scriptDone) return false;
-    const began = performance.now();
-    while (this.script.length > 0 && !this.session.run) {
-      if (performance.now() - began > 50) { this.wake(); return true; }
-      const line = this.script.pop(), answer = this.session.line(line);
-      if (!this.isQuiet && answer !== '') this.post({ event: 'line', line, answer, tape: tapeOf(this.session, line, answer) });
-    }
-    if (this.session.run) return true;
-    const done = this.scriptDone;
-    this.scriptDone = null;
-    this.isQuiet = false;
-    this.journal();
-    done();
-    return false;
-  }
-
-  play(lines) {
-    this.script = lines.toReversed();
-    return new Promise((done) => {
-      this.scriptDone = done;
-      this.wake();
-    });
-  }
 }
 
 // A trap of the module, or a stack that is used up, which Firefox calls an InternalError.
 const isTrap = (error) => error instanceof WebAssembly.RuntimeError || error instanceof RangeError || error?.name === 'InternalError';
+
+// Whether what was said of a line is a refusal, by the console or by a person; whether it ends with a question.
+const isRefused = (text) => /^\? \d+ |\? no$/m.test(text), isQuestion = (text) => text.endsWith('(y, or another key)? ');
 
 // How many turns the next slice has, where one of so many took so long: twice as many at most, or half.
 function nextSlice(turns, took) {
   const times = Math.max(0.5, Math.min(2, SLICE_MS / Math.max(took, 0.05)));
   return Math.round(Math.max(1000, Math.min(5e6, turns * times)));
 }
-
-// The bytes that a line `load` was given, where it refused them as a tape, or found no word and no address for start in them.
-function tapeOf(session, line, answer) {
-  return answer.startsWith('? 9 ') || answer === 'TAPE 0 none\n' ? session.p11.file(line.trim().split(/[ \t]+/)[1]) : undefined;
-}
-
-function newSession(exports, kwords) {
-  const session = new Session(new P11(exports, kwords, 1024));
-  session.put('/dev/null', new Uint8Array(0));
-  return session;
-}
-
-const linesIn = (text) => text.split('\n').map((line) => line.replace(/\r$/, '')).filter((line) => !/^[ \t]*(#|$)/.test(line));
 
 // A module by its SHA-256; nothing where the browser has none, as on a page that came without TLS.
 async function sha256(bytes) {
@@ -229,14 +324,14 @@ async function sha256(bytes) {
 
 // What can be called. Each takes its arguments as an object.
 const CALLS = {
-  // The machine that is there ends at once, and stays until the new one takes its place in one step: between two awaits anything
-  // else may be asked. Of two that are asked for at a time the last is made.
-  // Where a session goes on (kept: { lines, steps, pages }), it is put together of its pages, if they are of this module: whether it was.
-  async open(engine, { module, kwords, kept }) {
+  // A console is made and held. The one that is there ends at once, and stays until the new one takes its place in one step: between two
+  // awaits anything else may be asked. Of two that are asked for at a time the last is made. Where a session goes on (kept: { lines,
+  // steps, pages }), it is put together of its pages, if they are of this module: whether it was, and how many lines of its record count.
+  async open(engine, { module, kwords, past, ships, script, kept }) {
     const number = ++engine.opened;
-    if (engine.session) CALLS.halt(engine);
-    engine.scriptDone?.();
-    engine.scriptDone = null;
+    engine.journal();
+    engine.isHeld = true;
+    engine.ships = ships;
     engine.sum ??= await sha256(module);
     engine.compiled ??= await WebAssembly.compile(module);
     // A module that has trapped isn't used again: each machine gets an instance of its own.
@@ -245,60 +340,91 @@ const CALLS = {
     let pages = await instance();
     const revived = isKept ? pages.revive(kept.pages, kept.lines) : null;
     if (isKept && !revived) pages = await instance();
-    if (number !== engine.opened) return false;
-    if (revived) engine.begin(revived, pages, kept.lines.length, tailOf(kept.pages.head.state, kept.lines, kept.steps));
-    else engine.begin(newSession(pages.x, kwords), pages, kept?.lines.length, kept && [...kept.lines, ...stepsOf(kept.steps)]);
-    return revived !== null;
+    if (number !== engine.opened) return null;
+    const host = revived ?? new Host(pages.x, { kwords, past, script });
+    // Lines of a file that were under way are done again by the console itself.
+    const lines = revived?.isScripted ? host.record.length : kept?.lines.length ?? 0;
+    engine.begin(host, pages, lines);
+    if (revived?.isScripted) engine.left = [];
+    else if (kept) engine.left = revived ? tailOf(kept.pages.head.state, kept.lines, kept.steps) : [...kept.lines, ...stepsOf(kept.steps)];
+    engine.all = kept && [...kept.lines, ...stepsOf(kept.steps)];
+    return { isRevived: revived !== null, lines };
   },
 
-  line(engine, { line }) {
-    const wasRunning = engine.session.run !== null, answer = engine.session.line(line);
-    engine.journal();
-    engine.lit();
+  // Does what a session that goes on has still to do: what was typed then, how many turns were made in all, and whether a run goes on.
+  async again(engine) {
+    const { host, left, all } = engine, typed = [];
+    if (left.length > 0) {
+      engine.typed = typed;
+      host.again(left);
+      engine.isHeld = false;
+      await engine.atRest();
+      Object.assign(engine, { typed: null, isHeld: true });
+      if (host !== engine.host) return { typed, turns: 0 };
+      host.isThere(all);
+      engine.tellRun();
+    }
+    return { typed, turns: host.turns, isRunning: host.isRunning };
+  },
+
+  // Lets the console go on: with the machine's terminal where it talks; the line that is typed is shown where that is asked for.
+  go(engine, { talks, redraws }) {
+    engine.isHeld = false;
+    if (talks) engine.host.type('talk\r');
+    else if (redraws) {
+      engine.host.console.redrawn();
+      engine.host.takeScreen();
+    }
     engine.wake();
-    return { answer, isRun: !wasRunning && engine.session.run !== null, tape: tapeOf(engine.session, line, answer) };
+  },
+
+  async lines(engine, { lines, isSilent }) { return engine.say(lines, isSilent); },
+
+  // Keys of a person, and a line that the page types and doesn't wait for.
+  keys(engine, { bytes }) { engine.pressed(bytes); },
+  type(engine, { line }) { engine.behind(() => { engine.host.cutLine(); engine.host.type(`${line}\r`); }); },
+
+  // Ends the run, as Ctrl-E does, also one whose line is only typed yet, and one that would go on behind lines.
+  async halt(engine) {
+    const { host, saying } = engine;
+    if (saying) saying.goesOn = false;
+    if (host.want === WANT.keys && host.queue.length === 0) return;
+    host.keys([ESCAPE]);
+    await engine.atRest();
+  },
+
+  put(engine, { name, bytes }) { engine.host.store(name, bytes); },
+
+  // Answers `wants`: the file is put by now, or there is none.
+  found(engine, { name }) {
+    const { host } = engine;
+    if (!engine.isWanting || host.console.name() !== name) return;
+    engine.isWanting = false;
+    if (host.files.has(name)) host.found(); else host.missed();
+    engine.wake();
+  },
+
+  // What a console answers to a line, on a machine of its own with one file.
+  async answer(engine, { line, bytes }) {
+    const { exports } = await WebAssembly.instantiate(engine.compiled, {}), dialogue = new Dialogue(exports, { manner: GIVEN });
+    dialogue.keys(bytesOf(line + '\n'));
+    let said = '';
+    for (let n = 0; n < MOST_STEPS && said === ''; n++) {
+      const want = dialogue.step(1);
+      if (want === WANT.fetch && bytes) dialogue.fetched(bytes);
+      else if (want !== WANT.step) break;
+      said = textOf(dialogue.screen());
+    }
+    return said;
   },
 
   // What the drives show, and which files are mounted on them.
-  drives: (engine) => ({ device: engine.session.peek('device'), mounted: engine.session.mounted }),
-  changed: (engine, { drive }) => engine.session.peek(`changed ${drive}`),
-
-  talk(engine) {
-    engine.session.begin();
-    engine.wake();
-  },
-
-  keys(engine, { bytes }) {
-    engine.session.press(bytes);
-    engine.wake();
-  },
-
-  // Ends the run, and the script where one is played.
-  halt(engine) {
-    engine.script = [];
-    if (!engine.session.run) return;
-    clearTimeout(engine.timer);
-    engine.ended(engine.session.halt());
-    engine.session.keys = [];
-    engine.journal();
-    engine.wake();
-  },
-
-  put(engine, { name, bytes }) { engine.session.put(name, bytes); },
-  file: (engine, { name }) => engine.session.p11.file(name),
-  files: (engine) => [...engine.session.sizes].filter(([name]) => name !== '/dev/null'),
-  record: (engine) => engine.session.recordText(),
-  regs: (engine) => engine.session.p11.regs(),
-  memory: (engine) => engine.session.p11.x.memory.buffer.byteLength,
-
-  play: (engine, { text }) => engine.play(linesIn(text)),
-
-  // Plays what a session that goes on has still to play, quietly: what was typed then, and how many turns were made in all.
-  async again(engine) {
-    engine.typed = [];
-    await engine.play(engine.left);
-    return { typed: engine.typed, turns: engine.session.turns };
-  },
+  drives: (engine) => ({ device: engine.host.console.devices(), mounted: engine.host.mounted }),
+  file: (engine, { name }) => engine.host.file(name),
+  files: (engine) => [...engine.host.files].filter(([name]) => ![NO_FILE_NAME, AGAIN].includes(name)).map(([name, { size }]) => [name, size]),
+  record: (engine) => engine.host.recordText(),
+  regs: (engine) => engine.host.regs(),
+  memory: (engine) => engine.host.console.x.memory.buffer.byteLength,
 
   // Whether the pages that were taken last of this machine are kept; where one was refused, no more are taken of it.
   kept(engine, { machine, isKept }) {

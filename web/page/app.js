@@ -2,7 +2,7 @@
 'use strict';
 
 const $ = (selector) => document.querySelector(selector);
-const ENGINE = ['calls', 'session', 'pages', 'worker'].map((name) => `engine/${name}.js`);
+const ENGINE = ['calls', 'host', 'pages', 'worker'].map((name) => `engine/${name}.js`);
 
 // The page as it came, where it is one file; it is copied with a program in it.
 const PAGE = globalThis.P11_INSIDE ? `<!doctype html>\n${document.documentElement.outerHTML}\n` : null;
@@ -15,16 +15,21 @@ class App {
     this.memory.append(...Array.from({ length: 31 }, (_, n) => new Option(`${4 * n + 4} thousand words`, 4 * n + 4)));
     this.memory.value = '28';
     this.isShowing = 0;
+    this.past = [];      // lines that were typed, for the history of a further machine
   }
 
+  // What the page or the console says, which has the codes of a VT100.
   say(text) {
+    const { isVt52 } = this.screen;
+    this.screen.isVt52 = false;
     this.screen.write(Uint8Array.from(text.replace(/\n/g, '\r\n'), (c) => c.charCodeAt(0)));
+    this.screen.isVt52 = isVt52;
     this.view.speak(text);
   }
 
   // Nothing is done with a machine that isn't ready: keys wait, and panel and drives take nothing.
   hold(isHeld) {
-    this.console.hold(isHeld);
+    this.desk.hold(isHeld);
     for (const part of ['#panel', '#drives']) $(part).inert = isHeld;
   }
 
@@ -85,21 +90,22 @@ class App {
   connect() {
     this.link?.worker.terminate();
     this.link = new Link(this.sources);
-    const { link } = this, command = (line, isSilent) => this.console.command(line, isSilent);
+    const { link } = this, desk = new Desk({ link, onerror: (error) => this.note(error.message) });
+    this.desk = desk;
     this.sessions ??= new Sessions(this);
-    this.console = new Console({
-      link, say: (text) => this.say(text), find: (name) => this.sessions.find(name),
-      onrun: (isRunning) => this.runs(isRunning), ondone: () => this.drives.show(), onerror: (error) => this.note(error.message),
-    });
-    const halt = () => this.console.halt(), run = () => this.console.begin();
     const say = (text) => this.note(text), pick = (drive) => this.pick(drive);
-    this.panel ??= new Panel($('#panel'), { command, halt, run });
-    this.drives ??= new Drives($('#drives'), { command, say, pick, halt, run });
-    this.panel.link = link;
-    this.drives.link = link;
+    this.panel ??= new Panel($('#panel'));
+    this.drives ??= new Drives($('#drives'), { say, pick });
+    Object.assign(this.panel, { link, desk });
+    Object.assign(this.drives, { link, desk });
     link.on('typed', ({ bytes }) => this.typed(bytes));
-    link.on('stop', ({ text }) => this.console.stopped(text));
-    link.on('line', ({ line, answer, tape }) => this.console.answered(line, answer, tape));
+    link.on('said', ({ text }) => this.say(text));
+    link.on('runs', (run) => this.runs(run));
+    link.on('rests', () => this.drives.show());
+    link.on('wants', ({ name }) => this.sessions.find(name));
+    link.on('asks', ({ text }) => { this.note(text); if (text) this.focus(); });
+    link.on('past', ({ line }) => this.past.push(line));
+    link.on('over', () => this.sessions.leave('(The session is over, and kept; here is a new machine.)'));
     link.on('lamps', (lamps) => this.lamps(lamps));
     link.on('journal', (gained) => this.keep(gained));
     link.on('lost', ({ why }) => this.sessions.lost(why));
@@ -135,14 +141,14 @@ class App {
 
   typed(bytes) {
     this.screen.write(bytes);
-    this.console.typed(bytes);
     this.view.speak(String.fromCharCode(...bytes.slice(-400)));
     const replies = this.screen.takeReplies();
-    if (replies.length > 0 && this.console.isRunning) this.link.ask('keys', { bytes: replies });
+    if (replies.length > 0 && this.desk.isRunning) this.desk.feed(replies);
   }
 
-  runs(isRunning) {
-    this.store?.note({ isTalking: isRunning });
+  runs({ isRunning, isTalk }) {
+    Object.assign(this.desk, { isRunning, isTalk });
+    this.store?.note({ isTalking: isTalk });
     clearInterval(this.isShowing);
     if (isRunning) this.isShowing = setInterval(() => this.drives.show(), 1000);
   }

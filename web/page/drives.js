@@ -1,6 +1,6 @@
 // The eight drives and the files of the session: what is on each drive, mounting and write-protecting, which sectors
 // have changed, and the pack as a download.
-//   const drives = new Drives(element, { command, pick, say, halt, run }); drives.link = link; drives.show();
+//   const drives = new Drives(element, { pick, say }); drives.link = link; drives.desk = desk; drives.show();
 'use strict';
 
 class Drives {
@@ -24,7 +24,7 @@ class Drives {
       ['protect', 'Write-protect drive', () => this.protect(drive)],
       ['changed', 'Changed sectors of drive', () => this.sectors(drive)],
       ['take', 'Download the pack on drive', () => this.take(drive)],
-      ['off', 'Unmount drive', () => this.command(`unmount ${drive}`)],
+      ['off', 'Unmount drive', () => this.does([`unmount ${drive}`])],
     ]) {
       find(name).setAttribute('aria-label', `${label} ${drive}`);
       find(name).onclick = act;
@@ -63,36 +63,36 @@ class Drives {
     const box = this.rows[drive].find('sectors');
     box.hidden = !box.hidden;
     if (box.hidden) return;
-    const [, , ...numbers] = (await this.link.ask('changed', { drive })).trim().split(' ');
+    const [, , ...numbers] = (await this.desk.command(`changed ${drive}`, true)).answer.trim().split(' ');
     box.textContent = `Sectors written since it was mounted: ${rangesOf(numbers.map(Number)) || 'none'}`;
   }
 
   // The usual loader, toggled in at 1000: it reads the first 256 words of the drive's pack to 0, and goes there.
   async boot(drive) {
-    await this.halt();
+    await this.desk.halt();
     const address = (drive << 13).toString(8).padStart(6, '0');
-    for (const line of [`deposit 1000 12737 ${address} 177412 12700 177406 12710 177400 12740 5 105710 100376 5007`, 'start 1000']) {
-      const { answer, reason } = await this.command(line);
-      if (answer !== 'OK\n') { this.say(reason); return; }
-    }
-    await this.run();
+    const isDone = await this.does([`deposit 1000 12737 ${address} 177412 12700 177406 12710 177400 12740 5 105710 100376 5007`, 'start 1000']);
+    if (isDone) await this.desk.talk();
   }
 
   // The pack as it is now: `save` writes it to a file of the session, and that is given to the user.
   async take(drive) {
     const file = `drive${drive}.rk05`;
-    const { answer, reason } = await this.command(`save ${drive} ${file}`);
-    if (answer !== 'OK\n') { this.say(reason); return; }
-    download(file, await this.link.ask('file', { name: file }));
+    if (await this.does([`save ${drive} ${file}`])) download(file, await this.link.ask('file', { name: file }));
   }
 
   // A pack is protected when it is mounted; so one that turns is saved, taken off and mounted again.
   async protect(drive) {
     const { access } = this.state[drive], file = `drive${drive}.rk05`;
-    for (const line of [`save ${drive} ${file}`, `unmount ${drive}`, `mount ${drive} ${file} ${access === 'ro' ? 'rw' : 'ro'}`]) {
-      const { answer, reason } = await this.command(line);
-      if (answer !== 'OK\n') { this.say(reason); return; }
-    }
+    await this.does([`save ${drive} ${file}`, `unmount ${drive}`, `mount ${drive} ${file} ${access === 'ro' ? 'rw' : 'ro'}`]);
+  }
+
+  // Types lines: whether each was done. Why one wasn't is said.
+  async does(lines) {
+    const { answer, reason } = await this.desk.commands(lines);
+    if (reason) this.say(reason);
+    await this.show();
+    return answer === 'OK\n';
   }
 
   async showFiles() {

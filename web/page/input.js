@@ -7,21 +7,22 @@ function listen(app) {
   const isTerminal = (target) => target === keys || target === document.body;
   const control = document.querySelector('#control');
   const hold = (isHeld) => control.setAttribute('aria-pressed', String(isHeld)), isHeld = () => control.ariaPressed === 'true';
-  const feed = (codes, key) => {
+  const codesOf = (event) => keysOf(event, app.desk.isRunning ? app.screen : {});   // the console has the keys of a VT100
+  const feed = (codes) => {
     app.view.follow();
     const [first, ...more] = codes;
     if (first === undefined) return;
-    app.console.feed(isHeld() ? [...controlKey(String.fromCharCode(first)) ?? [first], ...more] : codes, key);
+    app.desk.feed(isHeld() ? [...controlKey(String.fromCharCode(first)) ?? [first], ...more] : codes);
     hold(false);
   };
 
   addEventListener('keydown', (event) => {
     if (event.key === 'F6') { event.preventDefault(); nextPart(event.shiftKey ? -1 : 1); return; }
     if (!isTerminal(event.target) || event.isComposing || isBrowsers(event)) return;
-    const codes = keysOf(event, app.screen);
+    const codes = codesOf(event);
     if (!codes) return;
     event.preventDefault();
-    feed(codes, event.key);
+    feed(codes);
   });
 
   // A keyboard on the glass gives text and no keys, and composed text at its end; a blank stands in the field, so that it can be
@@ -50,7 +51,7 @@ function listen(app) {
   }
   for (const button of document.querySelectorAll('[data-press]')) {
     const key = button.dataset.press;
-    button.onclick = () => { feed(keysOf({ key }, app.screen), key); app.focus(); };
+    button.onclick = () => { feed(codesOf({ key })); app.focus(); };
   }
   control.onclick = () => { hold(!isHeld()); app.focus(); };
   listenForFiles(app);

@@ -3,7 +3,7 @@
 'use strict';
 
 const NAMED = { Enter: [13], Backspace: [127], Delete: [127], Tab: [9], Escape: [27] };
-const ARROWS = { ArrowUp: 'A', ArrowDown: 'B', ArrowRight: 'C', ArrowLeft: 'D' };
+const ARROWS = { ArrowUp: 'A', ArrowDown: 'B', ArrowRight: 'C', ArrowLeft: 'D', Home: 'H', End: 'F' };
 const FUNCTIONS = { F1: 'P', F2: 'Q', F3: 'R', F4: 'S' };
 
 function keysOf(event, screen) {

@@ -1,5 +1,5 @@
-// What a file is that was dropped or picked, by what is in it, by its size and by its name:
-//   kindOf('diag.ptap', bytes)   { kind: 'script' }, 'tape', 'pack' or 'packed' (a session in one file); { kind: 'pack', doubt: '..' } is to be asked, and
+// What a file is that was dropped or picked, by what is in it, by its size and by its name; of a line and of a tape the console is asked:
+//   await kindOf('diag.ptap', bytes, async (line, bytes) => ..)   { kind: 'script' }, 'tape', 'pack' or 'packed' (a session in one file); { kind: 'pack', doubt: '..' } is to be asked, and
 //                                { refused: 'picture.png is a PNG picture, and no pack, tape or script' } is to be said
 'use strict';
 
@@ -12,18 +12,17 @@ const OTHERS = [
   [`a PDF document, ${NONE}`, 0, '%PDF'], [`a program for another machine, ${NONE}`, 0, '\x7fELF'],
   [`a program for another machine, ${NONE}`, 0, 'MZ'], [`a WebAssembly module, ${NONE}`, 0, '\0asm'],
 ];
-const SCRIPT_WORDS = /^(examine|deposit|start|key|tick|clock|switches|set|step|continue|regs|device|mount|unmount|save|changed|load|flush)\b/;
 const TAPE_NAME = /\.(tape|ptap|ptp|pt|bic|lda|abs)$/i, PACK_NAME = /\.(pack|rk05|rk\d?|dsk|img)$/i;
 
-function kindOf(file, bytes) {
+async function kindOf(file, bytes, answer) {
   if (/\.p11z$/i.test(file)) return { kind: 'packed' };
   const other = OTHERS.find(([, from, mark]) => [...mark].every((c, at) => bytes[from + at] === c.charCodeAt(0)));
   if (other) return { refused: `${file} is ${other[0]}` };
   if (bytes.length === 0) return { refused: `${file} has no bytes` };
   const text = textIn(bytes);
-  if (text !== null) return kindOfText(file, text);
-  if (isTape(file, bytes)) return { kind: 'tape' };
-  const before = straysBefore(bytes);
+  if (text !== null) return kindOfText(file, text, answer);
+  if (TAPE_NAME.test(file) || await isTape(bytes, answer)) return { kind: 'tape' };
+  const before = await straysBefore(bytes, answer);
   if (before > 0) {
     const those = before === 1 ? 'first byte' : `first ${before} bytes`;
     return { refused: `${file} is no paper tape for its ${those}: a tape begins with zeros and 1 0` };
@@ -51,24 +50,24 @@ function textIn(bytes) {
   }
 }
 
-function kindOfText(file, text) {
+async function kindOfText(file, text, answer) {
   const first = text.split('\n').map((line) => line.trim()).find((line) => line !== '' && !line.startsWith('#')) ?? '';
-  if (/\.p11$/i.test(file) || SCRIPT_WORDS.test(first)) return { kind: 'script' };
+  if (/\.p11$/i.test(file) || !(await answer(first)).startsWith('? 13 ')) return { kind: 'script' };
   return { refused: `${file} is a text, and no script: "${first.slice(0, 40)}" is no line of the console` };
 }
 
-// A tape is named so, or begins behind its leader as a block does and ends where its bytes do.
-function isTape(file, bytes) {
-  if (TAPE_NAME.test(file)) return true;
+// A tape begins behind its leader as a block does, and is loaded to its end.
+async function isTape(bytes, answer) {
   const at = bytes.findIndex((byte) => byte !== 0);
-  return at >= 0 && bytes[at] === 1 && bytes[at + 1] === 0 && (tapeFault(bytes)?.kind ?? 'Sum') === 'Sum';
+  return at >= 0 && isBlock(bytes, at) && (await answer('load tape', bytes)).startsWith('TAPE ');
 }
 
+const isBlock = (bytes, at) => bytes[at] === 1 && bytes[at + 1] === 0;
+
 // How many bytes stand in front of what would be a tape without them, or 0.
-function straysBefore(bytes) {
+async function straysBefore(bytes, answer) {
   for (let at = 1; at <= Math.min(MOST_LEADER, bytes.length - 2); at++) {
-    const isTapeFrom = bytes[at] === 1 && bytes[at + 1] === 0 && tapeFault(bytes.subarray(at)) === null;
-    if (isTapeFrom) return bytes.findLastIndex((byte, n) => n < at && byte !== 0) + 1;
+    if (isBlock(bytes, at) && await isTape(bytes.subarray(at), answer)) return bytes.findLastIndex((byte, n) => n < at && byte !== 0) + 1;
   }
   return 0;
 }

@@ -1,6 +1,6 @@
 // The page's end of the engine: a worker that is made of the engine's sources, so that it also runs where the page was
 // opened from a disk.
-//   const link = new Link(sources); await link.ask('line', { line: 'regs' }); link.on('typed', ({ bytes }) => ..);
+//   const link = new Link(sources); await link.ask('regs'); link.on('typed', ({ bytes }) => ..);
 'use strict';
 
 class Link {

@@ -1,15 +1,15 @@
-// The front of an 11/40: switches, lamps and the six keys. What a key does are lines of the console, so all of it is in
+// The front of an 11/40: switches, lamps and the six keys. What a key does are lines typed at the console, so all of it is in
 // the record. The lamps are the machine's own registers: PC and R0 while it runs and when it has stopped, and behind
 // LOAD ADRS, EXAM and DEP what those showed.
-//   const panel = new Panel(element, { command, halt, run }); panel.link = link; panel.light(lamps);
+//   const panel = new Panel(element); panel.link = link; panel.desk = desk; panel.light(lamps);
 'use strict';
 
 const REGISTERS = 0o777700, LAST_REGISTER = 0o777717, USER_STACK = 0o777716;
 const FLAGS = ['RUN', 'PROC', 'BUS', 'CONSOLE', 'USER', 'VIRTUAL'];
 
 class Panel {
-  constructor(element, calls) {
-    Object.assign(this, { element, ...calls, switches: 0, address: 0, data: 0, last: '', isEnabled: true, lamps: null, spokenAt: 0 });
+  constructor(element) {
+    Object.assign(this, { element, switches: 0, address: 0, data: 0, last: '', isEnabled: true, lamps: null, spokenAt: 0 });
     this.rows = { address: this.lampRow('address', 18), data: this.lampRow('data', 16) };
     this.flags = FLAGS.map((name) => this.flag(name));
     this.switchRow();
@@ -74,7 +74,7 @@ class Panel {
     const isChanged = ((switches ^ this.switches) & 0o177777) !== 0;
     this.switches = switches;
     this.show();
-    if (isChanged) await this.command(`switches ${octalOf(switches & 0o177777)}`, true);
+    if (isChanged) await this.desk.command(`switches ${octalOf(switches & 0o177777)}`, true);
   }
 
   async press(key) {
@@ -87,7 +87,7 @@ class Panel {
       case 'exam': this.address = this.next(was === 'exam'); await this.exam(); break;
       case 'dep': this.address = this.next(was === 'dep'); await this.dep(); break;
       case 'start': await this.start(); break;
-      case 'cont': await (this.isEnabled ? this.run() : this.command('step 1')); break;
+      case 'cont': await (this.isEnabled ? this.desk.talk() : this.desk.command('step 1')); break;
       default:
     }
     return this.light(this.lamps);
@@ -102,11 +102,11 @@ class Panel {
   async exam() {
     if (isRegister(this.address)) {
       const value = registerOf(await this.link.ask('regs'), this.address);
-      if (value === undefined) { await this.command(`examine ${octalOf(this.address)}`); return; }
+      if (value === undefined) { await this.desk.command(`examine ${octalOf(this.address)}`); return; }
       this.data = value;
       return;
     }
-    const { answer } = await this.command(`examine ${octalOf(this.address)}`);
+    const { answer } = await this.desk.command(`examine ${octalOf(this.address)}`);
     const found = /^EXAM \d+ (\d+)/.exec(answer);
     if (found) this.data = parseInt(found[1], 8);
   }
@@ -114,13 +114,13 @@ class Panel {
   async dep() {
     const word = this.switches & 0o177777, number = numberOf(this.address);
     const line = number === undefined ? `deposit ${octalOf(this.address)}` : `set ${number.toString(8)}`;
-    const { answer } = await this.command(`${line} ${octalOf(word)}`);
+    const { answer } = await this.desk.command(`${line} ${octalOf(word)}`);
     if (answer === 'OK\n') this.data = word;
   }
 
   async start() {
-    const { answer } = await this.command(`start ${octalOf(this.address & 0o177777)}`);
-    if (answer === 'OK\n' && this.isEnabled) await this.run();
+    const { answer } = await this.desk.command(`start ${octalOf(this.address & 0o177777)}`);
+    if (answer === 'OK\n' && this.isEnabled) await this.desk.talk();
   }
 
   async toggle() {
@@ -128,7 +128,7 @@ class Panel {
     const key = this.element.querySelector('[data-key=halt]');
     key.setAttribute('aria-checked', String(!this.isEnabled));
     key.querySelector('b').textContent = this.isEnabled ? 'ENABLE' : 'HALT';
-    if (!this.isEnabled) await this.halt();
+    if (!this.isEnabled) await this.desk.halt();
   }
 
   // -- the lamps: a lamp that was lit half the time glows at half

@@ -4,6 +4,8 @@
 //   await sessions.openPacked('mine.p11z', bytes); await sessions.packed()
 'use strict';
 
+const MOST_PAST = 200;
+
 class Sessions {
   constructor(app) {
     this.app = app;
@@ -15,25 +17,29 @@ class Sessions {
   async fresh(kwords = this.kwords) {
     if (!await this.open(kwords)) return;
     this.begin({ kwords });
-    this.app.console.open();
-    this.app.hold(false);
+    await this.go();
     this.app.openedIn ??= performance.now();
-    await this.app.drives.show();
   }
 
-  // Opens a machine, of what is kept of a session if that is given, and leaves it held. Gives what tells whether it is still the one
-  // that was asked for last, with whether it was put together of kept pages; or null where it is none already.
-  async open(kwords, kept) {
+  // Opens a machine, with a script that comes first, or of what is kept of a session, and leaves it held. Gives what tells whether it is
+  // still the one that was asked for last, with what the engine says of it; or null where it is none already.
+  async open(kwords, { script, kept } = {}) {
     const { app } = this, number = ++this.machine, isLast = () => number === this.machine;
     this.kwords = kwords;
     app.memory.value = String(kwords);
     app.hold(true);
-    const isRevived = await app.link.ask('open', { module: app.module.slice(), kwords, kept });
+    const opened = await app.link.ask('open', { module: app.module.slice(), kwords, past: app.past.slice(-MOST_PAST), ships: app.ships(), script, kept });
     if (!isLast()) return null;
-    app.console.reset();
     app.panel.last = '';
     if (app.screen.x > 0) app.say('\n');
-    return Object.assign(isLast, { isRevived });
+    return Object.assign(isLast, opened);
+  }
+
+  // The machine that is open goes on.
+  async go(how = {}) {
+    await this.app.link.ask('go', how);
+    this.app.hold(false);
+    await this.app.drives.show();
   }
 
   // One of those in boots.json.
@@ -46,12 +52,10 @@ class Sessions {
     const load = async () => {
       const script = await Shelf.text(entry.script), contents = await Promise.all(entry.files.map((file) => Shelf.bytes(file)));
       // the terminal makes the turns of a last line `continue`
-      return { script: entry.talk ? script.replace(/\ncontinue \d+\n$/, '\n') : script, files: entry.files.map((file, at) => ({ name: file, bytes: contents[at] })) };
+      return { talks: entry.talk, script: entry.talk ? script.replace(/\ncontinue \d+\n$/, '\n') : script, files: entry.files.map((file, at) => ({ name: file, bytes: contents[at] })) };
     };
-    if (!await this.start({ kwords: 28, title: entry.title, shown: entry.script, load, isBrief: true })) return;
+    if (!await this.start({ kwords: 28, title: entry.title, shown: entry.script, load })) return;
     app.note(`${entry.about} Type first: ${entry.first}`);
-    await app.drives.show();
-    if (entry.talk) await app.console.talk(); else app.console.open();
     app.focus();
   }
 
@@ -60,25 +64,22 @@ class Sessions {
     const { app } = this;
     try {
       const packed = await unpacked(bytes);
-      if (!await this.start({ kwords: packed.kwords, title: name, shown: name, load: () => packed })) return;
-      await app.drives.show();
-      if (packed.talks) await app.console.talk(); else app.console.open();
+      await this.start({ kwords: packed.kwords, title: name, shown: nameFor(name, () => false), load: () => packed });
     } catch (error) {
       app.note(`${name} is no session: ${error.message}.`);
     }
   }
 
-  // A session of its own, on a new machine: files, and a script that is played. Whether no other one was asked for meanwhile.
-  async start({ kwords, title, shown, load, isBrief = false }) {
-    const { app } = this, isLast = await this.open(kwords);
+  // A session of its own, on a new machine: files, and a script that comes first. Whether no other one was asked for meanwhile.
+  async start({ kwords, title, shown, load }) {
+    const { app } = this, isLast = await this.open(kwords, { script: shown });
     if (!isLast) return false;
     this.begin({ kwords, title });
-    app.say(`p11> do ${shown}\n`);
-    const { script, files } = await load();
+    const { script, files, talks } = await load();
     for (const { name, bytes } of files) if (isLast()) await this.put(name, bytes);
     if (!isLast()) return false;
-    app.hold(false);
-    await app.console.play(script, isBrief);
+    await app.link.ask('put', { name: shown, bytes: Uint8Array.from(script, (c) => c.charCodeAt(0)) });
+    if (isLast()) await this.go({ talks });
     return isLast();
   }
 
@@ -86,7 +87,7 @@ class Sessions {
   async packed() {
     const { app } = this, record = await app.link.ask('record'), { session } = app.store;
     const there = async () => Promise.all((await app.link.ask('files')).map(async ([name]) => ({ name, bytes: await app.link.ask('file', { name }) })));
-    return packedOf({ record, kwords: this.kwords, talks: app.console.isRunning, files: session ? await app.store.files(session.id) : await there() });
+    return packedOf({ record, kwords: this.kwords, talks: app.desk.isTalk, files: session ? await app.store.files(session.id) : await there() });
   }
 
   // Keeps what is done from now on as a session of its own.
@@ -98,14 +99,11 @@ class Sessions {
     this.app.store.file(name, bytes);
   }
 
-  // The bytes of a file that a line names: one of the session's, or one that ships with the page; null where it is neither.
+  // The console wants a file that isn't the session's: it may ship with the page.
   async find(name) {
-    const { app } = this, there = await app.link.ask('file', { name });
-    if (there) return there;
-    if (!app.ships().includes(name)) return null;
-    const bytes = await Shelf.bytes(name);
-    await this.put(name, bytes);
-    return bytes;
+    const { app } = this, bytes = app.ships().includes(name) ? await Shelf.bytes(name).catch(() => null) : null;
+    if (bytes) await this.put(name, bytes);
+    await app.link.ask('found', { name });
   }
 
   // Opens a kept session, also where another tab has it if that is asked for: whether it could.
@@ -123,32 +121,31 @@ class Sessions {
 
   // Goes on with a kept session: from its pages, and what was recorded since is played; or all of its record is played again.
   async resume(kept) {
-    const { app } = this, { session, lines, pages } = kept, began = performance.now();
-    const isLast = await this.open(session.kwords, { lines, pages, steps: session.steps });
+    const { app } = this, { session, lines, pages } = kept, { isTalking } = session, began = performance.now();
+    const isLast = await this.open(session.kwords, { kept: { lines, pages, steps: session.steps } });
     if (!isLast) return;
-    await app.store.resume(kept);
+    await app.store.resume({ session, lines: lines.slice(0, isLast.lines) });
     const { isRevived } = isLast, there = isRevived ? (await app.link.ask('files')).map(([name]) => name) : [];
     for (const { name, bytes } of await app.store.files(session.id, there)) await app.link.ask('put', { name, bytes });
     const offer = isRevived ? null : this.offerToStop(lines.length, session.turns);
-    const { typed, turns } = await app.link.ask('again');
+    const again = await app.link.ask('again');
     offer?.close();
     if (!isLast()) return;
-    this.goOn(kept, isRevived, typed, turns);
-    await app.drives.show();
-    if (session.isTalking) await app.console.talk(); else app.console.open();
-    app.hold(false);
+    this.goOn(kept, isLast, again);
+    await this.go({ talks: isTalking && !again.isRunning, redraws: !again.isRunning });
     app.back = { isRevived, ms: performance.now() - began };
   }
 
   // What a session that goes on shows.
-  goOn({ session, pages }, isRevived, typed, turns) {
+  goOn({ session, pages, lines }, { isRevived, lines: count }, { typed, turns }) {
     const { app } = this;
     if (isRevived) app.screen.showAgain(pages.head.screen);
     for (const bytes of typed) app.screen.write(bytes);
     app.screen.takeReplies();
     if (app.screen.x > 0) app.say('\n');
     app.say(`(The session goes on after ${turns.toLocaleString('en')} turns.)\n`);
-    if (turns !== session.turns) app.note(`The record came to ${turns} turns, and the session had ${session.turns}.`);
+    if (count < lines.length) app.note('The script that was under way is done again from the last second on.');
+    else if (turns !== session.turns) app.note(`The record came to ${turns} turns, and the session had ${session.turns}.`);
     app.setClock(session.hertz ?? 0);
     app.setPace(session.pace ?? 0);
   }
@@ -175,7 +172,6 @@ class Sessions {
   // The module has trapped. What was done is offered as a record, and a new machine takes its place.
   async lost(why) {
     const { app } = this;
-    app.console.runs(false);
     const record = await app.link.ask('record').catch(() => null);
     app.say(`\nThe machine is lost: ${why}.\n`);
     await this.fresh();
@@ -188,31 +184,35 @@ class Sessions {
   // -- a file that was dropped or picked, for a drive where one is named
   async take(file, drive) {
     const { app } = this, bytes = await contentOf(file);
-    if (app.console.isHeld) { app.note(`${file.name} is left out: the machine isn't ready yet.`); return; }
+    if (app.desk.isHeld) { app.note(`${file.name} is left out: the machine isn't ready yet.`); return; }
     if (!bytes) { app.note(`${file.name} can't be read: of a folder, drop the files that are in it.`); return; }
-    const { kind, doubt, refused } = kindOf(file.name, bytes);
+    const { kind, doubt, refused } = await kindOf(file.name, bytes, (line, tape) => app.link.ask('answer', { line, bytes: tape }));
     if (refused) { app.note(`${refused}.`); return; }
     if (doubt && !await app.ask(`${doubt}. Is it a pack?`, 'Mount it')) { app.note(`${file.name} is left out.`); return; }
     if (kind === 'packed') { await this.openPacked(file.name, bytes); return; }
     await (kind === 'script' ? this.play(file.name, bytes) : this.use(file.name, bytes, kind, drive));
   }
 
-  async play(name, bytes) {
-    const { app, machine } = this;
-    await app.console.halt();
-    app.say(`\np11> do ${name}\n`);
-    await app.console.play(new TextDecoder('latin1').decode(bytes));
-    if (machine !== this.machine) return;
-    app.console.open();
-    await app.drives.show();
+  // A script is no file of the session: its lines are in the record.
+  async play(file, bytes) {
+    const { app } = this, name = await this.nameFor(file);
+    await app.desk.halt();
+    await app.link.ask('put', { name, bytes });
+    await app.desk.type(`do ${name}`);
+  }
+
+  // A name that no file has.
+  async nameFor(file) {
+    const taken = await this.app.link.ask('files');
+    return nameFor(file, (it) => taken.some(([other]) => other === it));
   }
 
   // Mounts a pack or loads a tape: whether it was taken.
   async use(file, bytes, kind, drive) {
-    const { app } = this, taken = await app.link.ask('files'), name = nameFor(file, (it) => taken.some(([other]) => other === it));
+    const { app } = this, name = await this.nameFor(file);
     await this.put(name, bytes);
     const to = drive ?? app.drives.firstEmpty();
-    const { answer, reason } = await app.console.command(kind === 'tape' ? `load ${name}` : `mount ${to} ${name} rw`);
+    const { answer, reason } = await app.desk.command(kind === 'tape' ? `load ${name}` : `mount ${to} ${name} rw`);
     if (reason) app.note(`${file}: ${reason}.`);
     else app.note(kind === 'tape' ? loadedNote(file, answer) : `${file} is mounted on drive ${to}.`);
     return !reason;

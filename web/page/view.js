@@ -85,7 +85,7 @@ class View {
 
   // What came, for a screen reader: whole lines, a few at a time.
   speak(text) {
-    this.unspoken += text.replace(/[^ -~\n]/g, '');
+    this.unspoken += text.replace(/\x1b\[[0-9;?]*[A-Za-z]|[^ -~\n]/g, '');
     const lines = this.unspoken.split('\n');
     this.unspoken = lines.pop().slice(-200);
     const said = lines.filter((line) => line.trim() !== '').slice(-8).join('\n');
