@@ -56,12 +56,16 @@ def inputs(work, script, names):
 
 
 def keep(work, script, given, saved):
-    """Writes the files that a script has saved, where they are new or differ."""
+    """Writes the files that a script has saved, where they are new or differ. Why one can't be written, if its name is the cause."""
     for name, held in saved.items():
         if held is not None and held != given.get(name):
             place = work.result(script, "files", name)
-            os.makedirs(os.path.dirname(place), exist_ok=True)
-            write(place, held)
+            try:
+                os.makedirs(os.path.dirname(place), exist_ok=True)
+                write(place, held)
+            except (FileExistsError, IsADirectoryError, NotADirectoryError) as cause:
+                return f"saves {name}, which can't be written: {cause.strerror}"
+    return None
 
 
 def play(work, script, size, told):
@@ -82,9 +86,12 @@ def play(work, script, size, told):
             saved = {name: machine.file(name) for name in writes}
     except Failed as cause:
         status, errors = STATUSES.get(cause.number, cause.number), str(cause)
-    record = {"script": script.path, "status": status, "seconds": round(time.monotonic() - began, 6), "answers": answers.decode("latin-1")}
-    keep(work, script, given, saved)
-    told.is_played(script, work.fault_of_answers(script, status, errors, answers), answers)
+    seconds = time.monotonic() - began
+    fault = keep(work, script, given, saved)
+    if fault:
+        status, errors = 1, fault
+    record = {"script": script.path, "status": status, "seconds": round(seconds, 6), "answers": answers.decode("latin-1")}
+    told.is_played(script, work.fault_of_answers(script, status, errors, answers), work.refusals(script, answers))
     return json.dumps({**record, "errors": errors} if errors else record) + "\n"
 
 
@@ -170,7 +177,7 @@ def earlier(work, scripts, told):
             if script:
                 answers = record["answers"].encode("latin-1")
                 fault = work.fault_of_answers(script, record["status"], record.get("errors", ""), answers)
-                told.is_played(script, fault, answers)
+                told.is_played(script, fault, work.refusals(script, answers))
         file.truncate(whole)
     return list(by_path.values())
 

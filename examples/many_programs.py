@@ -1,6 +1,7 @@
 """Plays scripts by the program p11, many at a time, by GNU parallel or as tasks of Slurm. A module for many; it isn't run by
 itself."""
 import os
+import re
 import shlex
 import shutil
 import subprocess
@@ -12,6 +13,9 @@ from many_scripts import Fault, Told, named_in, read
 HERE = os.path.dirname(os.path.realpath(__file__))
 # What a script's folder has until it is judged.
 GIVEN = ("inputs", "script", "play", "p11")
+# The name that a script's folder has for an empty pack, which p11 wouldn't find as /dev/null there, and where a line has that.
+EMPTY = ".p11-many-empty"
+OF_NULL = re.compile(rb"(?m)^([ \t]*(?:mount[ \t]+[0-7]+|load)[ \t]+)/dev/null(?=[ \t]|$)")
 # The most tasks that Slurm takes in one array where it isn't set otherwise.
 TASKS = 1000
 
@@ -73,20 +77,36 @@ def link(file, to):
         shutil.copy(file, to)
 
 
+def script_of(work, script):
+    """The lines that are played; an empty pack is a file of the folder, to which p11 is kept."""
+    lines = read(work.script(script))
+    if work.anywhere or not OF_NULL.search(lines):
+        return lines
+    with open(work.result(script, "inputs", EMPTY), "wb"):
+        return OF_NULL.sub(rb"\1" + EMPTY.encode(), lines)
+
+
+def options_of(work, rest):
+    """The options of p11: these, and that which keeps it to the script's folder."""
+    is_kept = not work.anywhere and not any(word.partition("=")[0] == "--files" for word in rest)
+    return ["--files", ".", *rest] if is_kept else rest
+
+
 def lay_out(work, script):
     """The folder of a script that is to be played, with all that it takes; whether it can be played."""
     shutil.rmtree(work.result(script), ignore_errors=True)
     reads, writes = named_in(work.script(script))
     if work.fault_of_names(script, reads, writes):
         return False
-    # a name that begins with / is the host's
+    # others are the host's
     reads, writes = ([name for name in names if not name.startswith("/")] for names in (reads, writes))
     for name in [".", *writes]:
         os.makedirs(work.result(script, "inputs", os.path.dirname(name)), exist_ok=True)
     for name in reads:
         if os.path.isfile(work.input(script, name)):
             link(work.input(script, name), work.result(script, "inputs", name))
-    shutil.copy(work.script(script), work.result(script, "script"))
+    with open(work.result(script, "script"), "wb") as file:
+        file.write(script_of(work, script))
     for name in ("play", "p11"):
         link(os.path.join(work.results, "." + name), work.result(script, name))
     return True
@@ -100,7 +120,7 @@ def prepare(work, scripts, rest):
             os.unlink(os.path.join(work.results, name))
     shutil.copy(find_program(), os.path.join(work.results, ".p11"))
     with open(os.path.join(work.results, ".play"), "w") as file:
-        file.write(PLAY.replace("OPTIONS", shlex.join(rest)))
+        file.write(PLAY.replace("OPTIONS", shlex.join(options_of(work, rest))))
     return [script for script in scripts if not is_played(work, script) and lay_out(work, script)]
 
 
@@ -191,7 +211,7 @@ def judge(work, scripts):
             status, answers = int(read(work.result(script, "status"))), read(work.result(script, "answers"))
             errors = work.result(script, "errors")
             said = read(errors).decode("latin-1") if os.path.exists(errors) else ""
-            told.is_played(script, work.fault_of_answers(script, status, said, answers), answers)
+            told.is_played(script, work.fault_of_answers(script, status, said, answers), work.refusals(script, answers))
         else:
             told.not_played(script, work.fault_of_names(script, *named_in(work.script(script))))
     return told

@@ -4,6 +4,8 @@ import os
 import sys
 
 SHOWN = 20
+# The file of the results that names the scripts in which a line was refused.
+REFUSED = "refused.txt"
 
 
 class Fault(Exception):
@@ -63,10 +65,11 @@ def read(path):
 
 
 class Work:
-    """The folder that has the scripts, `home`, and that of their results."""
+    """The folder that has the scripts, `home`, and that of their results; whether a script may name files `anywhere`, and whether
+    it fails where a line is refused (`strict`)."""
 
-    def __init__(self, home, results):
-        self.home, self.results = home, results
+    def __init__(self, home, results, anywhere=False, strict=False):
+        self.home, self.results, self.anywhere, self.strict = home, results, anywhere, strict
 
     def script(self, script):
         return os.path.join(self.home, script.path)
@@ -74,6 +77,10 @@ class Work:
     def input(self, script, name):
         """The file that a script means by a name."""
         return os.path.join(os.path.dirname(self.script(script)), name)
+
+    def wanted(self, script):
+        """The file that has the answers that are wanted, if there is one."""
+        return self.script(script).removesuffix(".p11") + ".out"
 
     def result(self, script, *parts):
         return os.path.join(self.results, script.name, *parts)
@@ -83,18 +90,29 @@ class Work:
         for name in reads + writes:
             if ".." in name.split("/"):
                 return f"names {name}, which isn't below its folder"
+            if name.startswith("/") and not self.anywhere and (name != os.devnull or name in writes):
+                return f"names {name}, which isn't below its folder; with --anywhere it may"
             if name in reads and name not in writes and not name.startswith("/") and not os.path.isfile(self.input(script, name)):
                 return f"names {name}, and there is no file {self.input(script, name)}"
         return None
 
     def fault_of_answers(self, script, status, errors, answers):
         """Why a script that was played has failed, if it has."""
-        wanted = self.script(script).removesuffix(".p11") + ".out"
+        wanted = self.wanted(script)
         if status:
             return f"ended with status {status}" + (f": {errors.strip()}" if errors.strip() else "")
         if os.path.exists(wanted) and read(wanted) != answers:
             return f"answers other than {wanted}"
+        refused = self.refusals(script, answers)
+        if self.strict and refused:
+            return f"has {len(refused)} refused line{'s' if len(refused) > 1 else ''}, the first with {refused[0]}"
         return None
+
+    def refusals(self, script, answers):
+        """The answers to refused lines, where no NAME.out says what is wanted."""
+        if os.path.exists(self.wanted(script)):
+            return []
+        return [line.decode("latin-1") for line in answers.split(b"\n") if line.startswith(b"?")]
 
 
 class Told:
@@ -106,11 +124,11 @@ class Told:
     def not_played(self, script, fault):
         self.failed.append((script.path, fault or "wasn't played to its end; --resume plays it"))
 
-    def is_played(self, script, fault, answers):
+    def is_played(self, script, fault, refusals):
         self.played += 1
         if fault:
             self.failed.append((script.path, fault))
-        if any(line.startswith(b"?") for line in answers.splitlines()):
+        if refusals:
             self.refused.append(script.path)
 
     def join(self, other):
@@ -123,7 +141,17 @@ class Told:
         for path, fault in sorted(self.failed):
             print(f"{path} {fault}")
         print(f"p11-many: {self.played} of {count} scripts are played, {len(self.failed)} failed; {work.results} has the answers")
-        if self.refused:
-            more = f" and {len(self.refused) - SHOWN} more" if len(self.refused) > SHOWN else ""
-            print(f"p11-many: a line is refused in {', '.join(sorted(self.refused)[:SHOWN])}{more}")
+        self.list_refused(work)
         return 1 if self.failed else 0
+
+    def list_refused(self, work):
+        """Prints in how many scripts a line was refused, and in which, and leaves their names in a file."""
+        path, names = os.path.join(work.results, REFUSED), sorted(self.refused)
+        if names:
+            more = f" and {len(names) - SHOWN} more" if len(names) > SHOWN else ""
+            option = "" if work.strict else "; --strict fails them"
+            print(f"p11-many: lines are refused in {len(names)} of {self.played}: {', '.join(names[:SHOWN])}{more} ({path} has all{option})")
+            with open(path, "w") as file:
+                file.write("".join(name + "\n" for name in names))
+        elif os.path.exists(path):
+            os.unlink(path)

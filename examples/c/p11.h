@@ -21,7 +21,7 @@ enum {
     P11_BAD_SIZE = 2,  /* no machine has these sizes, or no dialogue this manner */
     P11_BAD_FILES = 3, /* the bytes of the files are no row of files, or no row has a file of these lengths */
     P11_TOO_SMALL = 4, /* a buffer is too small: the lengths are told */
-    P11_TOO_LONG = 5,  /* the script wasn't read to its end: it has 4,095,995,904 bytes or more */
+    P11_TOO_LONG = 5,  /* the script wasn't read to its end: it has 4,095,995,905 bytes or more */
     P11_NO_MACHINE = 6, /* the handle holds no machine, or no console */
     P11_NO_FILE = 7,   /* the machine's store has no file of this name, or the console wants none */
     P11_TOO_MANY = 8   /* no run has so many turns, or no output so many bytes */

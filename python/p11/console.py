@@ -11,6 +11,10 @@ TYPED, GIVEN, BATCH = range(3)
 STEP, KEYS, IDLE, MEMORY, FETCH, PUT, NAMES, END = range(8)
 WRITTEN, THERE, MISSING, DENIED, FOLDER, PATH, LONG, NO_MEMORY, FAULT = range(9)
 DONE, TOO_SMALL, NO_FILE = 0, 4, 7
+STATUSES = {
+    1: "there is no memory for it", 2: "no machine has these sizes, or no dialogue this manner", 6: "the console is dropped",
+    7: "the console wants no file", 8: "no run has so many turns",
+}
 TAKING = {"screen": "shown", "record": "recorded", "past": "kept"}
 ROOM = 65536
 
@@ -21,11 +25,11 @@ class Handle(ctypes.Structure):
 
 
 class Refused(Exception):
-    """A call of the library wasn't done; `status` is the number that it answers (examples/c/p11.h)."""
+    """A call that wasn't done: `call`, the name of p11_console_ that it has in C, and `status`, the number that this answers."""
 
     def __init__(self, call, status):
-        super().__init__(f"p11_console_{call} answers status {status}")
-        self.status = status
+        super().__init__(f"p11_console_{call}: status {status}: {STATUSES.get(status, 'examples/c/p11.h has it')}")
+        self.call, self.status = call, status
 
 
 class Console:

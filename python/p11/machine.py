@@ -6,6 +6,8 @@ from typing import Iterable, List, NamedTuple, Optional, Union
 from . import library
 from .library import DONE, NO_FILE, TOO_SMALL, Failed, Handle, RegistersTold, Run
 
+# The bytes of a file, as callers have them.
+Held = Union[bytes, bytearray, memoryview]
 MARKS = ("ready", "waiting", "halted")
 REASONS = ("halt", "turns", "idle", "memory")
 MOST = 100_000_000
@@ -14,21 +16,30 @@ OWN = "(own)"
 # The usual loader of a pack: it reads the first sectors of drive 0 to 0, and goes there.
 LOADER = (0o12700, 0o177406, 0o12710, 0o177400, 0o12740, 5, 0o105710, 0o100376, 0o5007)
 NUMBERS = dict(r0=0, r1=1, r2=2, r3=3, r4=4, r5=5, sp=0o6, ksp=0o6, usp=0o10, pc=0o7, ps=0o11)
+# The number of no register.
+NONE = 0o77
 TEXTS = {
     1: "there are the drives 0 to 7", 2: "the drive is empty", 3: "the drive has a pack; unmount it first",
     4: "the image has more than 2,494,464 bytes", 5: "an address of a word is even",
     6: "nothing answers at this address", 7: "the drive is busy; let the machine make some turns",
     8: "64 keys wait; let the machine take some", 9: "these bytes are no absolute tape", 10: "512 words at most, and on the I/O page one",
-    11: "there is no such register", 12: "there is no memory for it", 13: "this is no line of the console", 14: "there is no such file",
+    11: "there is no such register; there are r0 to r5, sp or ksp, usp, pc, ps", 12: "there is no memory for it",
+    13: "this is no line of the console", 14: "there is no such file",
 }
+
+BAD_LINE = 13
+# What it means where a call has made the line.
+OUT_OF_RANGE = "addresses are 0 to 0o777777, words 0 to 0o177777, drives 0 to 7, counts 1 to 999,999,999, and 64 keys wait at most"
 
 
 class Refused(ValueError):
-    """A line that was refused, and has changed nothing: its `line`, the refusal's `number` and `name`."""
+    """A call that was refused: the `call` as it was made, the refusal's `number` and `name`, and the `line` of the console that was
+    refused for it, which has changed nothing."""
 
-    def __init__(self, line: str, number: int, name: str):
-        super().__init__(f"{line[:60]}: {number} {name}: {TEXTS.get(number, '')}")
-        self.line, self.number, self.name = line, number, name
+    def __init__(self, call: str, line: str, number: int, name: str):
+        text = OUT_OF_RANGE if number == BAD_LINE and call != line else TEXTS.get(number, "")
+        super().__init__(f"{call if len(call) <= 60 else call[:58] + '..'}: {number} {name}: {text}")
+        self.call, self.line, self.number, self.name = call, line, number, name
 
 
 class Stop(NamedTuple):
@@ -108,6 +119,10 @@ class Machine:
 
     def line(self, line: str) -> str:
         """Does a line of the console, and gives the text of its answer."""
+        return self._do(line, line)
+
+    def _do(self, line: str, call: str) -> str:
+        """Does a line for a call, which is named where the line is refused."""
         typed = self.typed
         text = line.encode("latin-1")
         self._done(self._p11.p11_line(self._at, text, len(text)))
@@ -115,28 +130,32 @@ class Machine:
         self._typed = None if "TTY " in answer or "STOP " in answer else typed
         if answer.startswith("?"):
             _, number, name = answer.split()[:3]
-            raise Refused(line, int(number), name)
+            raise Refused(call, line, int(number), name)
         return answer
 
     def deposit(self, address: int, *words: Union[int, Iterable[int]]) -> None:
         """Writes words from an address on: numbers, or what gives numbers; 64 a line, so a refusal leaves those of the lines before."""
         row = [word for part in words for word in ([part] if isinstance(part, int) else part)]
+        call = f"deposit({address:#o}, ..)"
         for at in range(0, len(row), 64):
-            self.line(f"deposit {address + 2 * at:o} " + " ".join(f"{word:o}" for word in row[at:at + 64]))
+            line = f"deposit {address + 2 * at:o} " + " ".join(f"{word:o}" for word in row[at:at + 64])
+            self._do(line, f"{call}, from {address + 2 * at:#o} on" if at else call)
 
     def examine(self, address: int, count: Optional[int] = None) -> Union[int, List[int]]:
         """The word at an address; with a count the words from it on, as a list."""
-        words = [int(line.split()[2], 8) for line in self.line(f"examine {address:o} {count or 1}").splitlines()]
+        call = f"examine({address:#o})" if count is None else f"examine({address:#o}, {count})"
+        shown = self._do(f"examine {address:o} {1 if count is None else count}", call)
+        words = [int(line.split()[2], 8) for line in shown.splitlines()]
         return words[0] if count is None else words
 
     def set(self, **registers: int) -> None:
         """Sets registers by their names: r0 to r5, sp (or ksp), usp, pc, ps."""
         for name, word in registers.items():
-            self.line(f"set {NUMBERS[name]:o} {word:o}" if name in NUMBERS else f"set {name}")
+            self._do(f"set {NUMBERS.get(name, NONE):o} {word:o}", f"set({name}={word:#o})")
 
     def start(self, address: int) -> None:
         """Resets the devices, and puts PC to an address; `step` and `run` go on from there."""
-        self.line(f"start {address:o}")
+        self._do(f"start {address:o}", f"start({address:#o})")
 
     def step(self, turns: int = 1) -> Stop:
         """Makes so many turns, or fewer if the machine halts."""
@@ -182,7 +201,8 @@ class Machine:
     def key(self, text: Union[str, bytes]) -> None:
         """Presses keys: the line ends by "\\r" on this machine. It takes one every 64 turns at most, and 64 wait."""
         keys = text.encode("latin-1") if isinstance(text, str) else text
-        self.line("key " + "".join(f"\\{key:03o}" for key in keys))
+        if keys:
+            self._do("key " + "".join(f"\\{key:03o}" for key in keys), f"key({text!r})")
 
     @property
     def keys_waiting(self) -> int:
@@ -191,17 +211,17 @@ class Machine:
         self._done(self._p11.p11_keys_waiting(self._at, addressof(count)))
         return count.value
 
-    def mount(self, drive: int, image: bytes = b"", write: bool = True) -> None:
+    def mount(self, drive: int, image: Held = b"", write: bool = True) -> None:
         """Mounts a pack of these bytes, which are the machine's own from then on; fewer than an RK05 has are filled with zeros."""
-        self._with_file(f"mount {drive:o} {OWN} {'rw' if write else 'ro'}", image)
+        self._with_file(f"mount {drive:o} {OWN} {'rw' if write else 'ro'}", image, f"mount({drive}, ..)")
 
     def unmount(self, drive: int) -> None:
         """Takes a pack out; what `pack` didn't give is lost."""
-        self.line(f"unmount {drive:o}")
+        self._do(f"unmount {drive:o}", f"unmount({drive})")
 
-    def load(self, tape: bytes) -> Optional[int]:
+    def load(self, tape: Held) -> Optional[int]:
         """Loads an absolute paper tape: its start address, if it has one."""
-        start = self._with_file(f"load {OWN}", tape).split()[2]
+        start = self._with_file(f"load {OWN}", tape, "load(..)").split()[2]
         return None if start == "none" else int(start, 8)
 
     def boot(self) -> None:
@@ -211,14 +231,14 @@ class Machine:
 
     def pack(self, drive: int) -> bytes:
         """The whole pack on a drive as it is now, 2,494,464 bytes."""
-        self.line(f"save {drive:o} {OWN}")
+        self._do(f"save {drive:o} {OWN}", f"pack({drive})")
         held = self.file(OWN)
         self._forget()
         return held
 
     def changed(self, drive: int) -> List[int]:
         """The sectors that were written since the mount, in the order of their first writes."""
-        return [int(number) for number in self.line(f"changed {drive:o}").split()[2:]]
+        return [int(number) for number in self._do(f"changed {drive:o}", f"changed({drive})").split()[2:]]
 
     def script(self, lines: Union[str, bytes]) -> bytes:
         """Does lines of the console as p11 does a script, and gives the text of their answers; a refused one is among these.
@@ -228,9 +248,11 @@ class Machine:
         self._typed = None
         return self._handed(self._p11.p11_answer)
 
-    def put_file(self, name: str, held: bytes) -> None:
+    def put_file(self, name: str, held: Held) -> None:
         """Puts a file where lines of the console find it by its name."""
         word = name.encode("latin-1")
+        if not isinstance(held, bytes):
+            held = bytes(memoryview(held))
         self._done(self._p11.p11_put_file(self._at, word, len(word), held, len(held)))
 
     def file(self, name: str) -> Optional[bytes]:
@@ -243,11 +265,11 @@ class Machine:
                 raise
             return None
 
-    def _with_file(self, line: str, held: bytes) -> str:
-        """Does a line that takes a file from the machine's store."""
+    def _with_file(self, line: str, held: Held, call: str) -> str:
+        """Does a line that takes a file from the machine's store, for a call."""
         self.put_file(OWN, held)
         try:
-            return self.line(line)
+            return self._do(line, call)
         finally:
             self._forget()
 
