@@ -1,6 +1,5 @@
 """Cases of a file on SIMH's PDP-11 as an 11/40: what differs has to be of a rule that the case names, and of a row of
 soak/README's table. A module for soak/cases; it isn't run by itself."""
-import collections
 import itertools
 import os
 import re

@@ -1,6 +1,6 @@
 /* Where a released program begins, in the place of the toolchain's Scrt1.o: that file asks for glibc 2.34, and with this one
- * the program wants no symbol newer than 2.28, so it runs on Debian 11, whose glibc is 2.31. Older ones don't run the
- * program's constructors themselves, so they are handed `construct`; newer ones call it too. */
+ * nothing of the start is newer than 2.2.5; what else the program asks for decides which glibc it runs with (glibc). Those before
+ * 2.34 don't run the program's constructors themselves, so they are handed `construct`; newer ones call it too. */
 
 /* The oldest form of the call, which each glibc for x86-64 has. */
 __asm__(".symver __libc_start_main, __libc_start_main@GLIBC_2.2.5");
