@@ -62,6 +62,7 @@ def made(book, names, link):
         elif name not in words:
             words[name] = [(anchor, page) for anchor, _, page in places]
     entries = [(word, re.sub(r"\*", "", html.escape(html.unescape(word))), places) for word, places in words.items()]
-    return ('<h1 id="index">Index</h1><p>The number is that of the chapter.</p><h2 id="index-words">The handbook\'s words</h2>'
+    return ('<h1 id="index">Index</h1><p>The number is that of the chapter; where it stands twice, it leads to two of its sections.</p>'
+            '<h2 id="index-words">The handbook\'s words</h2>'
             + by_letter(entries, link, "index") + '<h2 id="index-names">Names in the definitions</h2>'
             + by_letter(code.values(), link, "index-name"))

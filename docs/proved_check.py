@@ -3,8 +3,9 @@
 
 A row of a table whose last column is `File` names in that column files as `p11_panel/playing.rt` (below the crate's src) and
 `p11_cpu/Turns.antt` (below its specs), and in the column before it functions, clauses and definitions. Each file has to be there,
-and each name has to be a word of one of the row's files, outside comments. A file that isn't right in src or specs is looked for
-in their folders. Each fault is a line. Exit status 1: there is one, or no such table was found.
+and one of the row's files has to declare each name: as a function, a clause of one, a type, a trait, a ghost member, a definition.
+A file that isn't right in src or specs is looked for in their folders. The other names of PROVED are docs/names_check.py's. Each
+fault is a line. Exit status 1: there is one, or no such table was found.
 """
 import glob
 import os
@@ -15,6 +16,11 @@ HERE = os.path.dirname(os.path.realpath(__file__))
 CRATES = os.path.join(HERE, "..", "crates")
 FOLDERS = {".rt": "src", ".antt": "specs"}
 COMMENT = {".rt": r"//.*", ".antt": r"(?:^|\s)--.*"}
+# What stands before a name that a file declares.
+DECLARED = {
+    ".rt": r"\b(?:fn|ensures\*?|struct|enum|trait|ghost|impl(?:<[^>]*>)?(?: [\w:<>, ]+ for)?)\s+(\w+)",
+    ".antt": r"^ *(?:(?:unfoldable|abbrev|pub|data|record) +)*([\w']+)(?=[^=\n]*:| *$| +where)",
+}
 
 
 def rows(text):
@@ -30,8 +36,8 @@ def rows(text):
             yield number, re.findall(r"`([^`]+)`", cells[-2]), re.findall(r"`([^`]+)`", cells[-1])
 
 
-def words_of(name):
-    """The words of a file that PROVED names; None if there isn't just one."""
+def declared_in(name):
+    """What a file that PROVED names declares; None if there isn't just one such file."""
     crate, _, file = name.partition("/")
     end = os.path.splitext(file)[1]
     folder = os.path.join(CRATES, crate, FOLDERS.get(end, "?"))
@@ -39,21 +45,21 @@ def words_of(name):
     if len(found) != 1:
         return None
     with open(found[0], encoding="utf-8") as source:
-        return set(re.findall(r"[^\W\d][\w']*", re.sub(COMMENT[end], "", source.read(), flags=re.M)))
+        return set(re.findall(DECLARED[end], re.sub(COMMENT[end], "", source.read(), flags=re.M), flags=re.M))
 
 
 def faults(text):
     for number, names, files in rows(text):
-        words = {name: words_of(name) for name in files}
-        for name in (name for name in files if words[name] is None):
+        declared = {name: declared_in(name) for name in files}
+        for name in (name for name in files if declared[name] is None):
             yield f"line {number}: there is no file {name}, or several"
         if not names or not files:
             yield f"line {number}: a row without a clause or without a file"
-        there = set().union(*filter(None, words.values()))
+        there = set().union(*filter(None, declared.values()))
         for name in names:
             for word in name.split("::"):
                 if word not in there:
-                    yield f"line {number}: {name} isn't in {', '.join(files)}"
+                    yield f"line {number}: {word} isn't declared in {', '.join(files)}"
 
 
 def main():

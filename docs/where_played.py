@@ -90,14 +90,20 @@ def first_other(expected, answered):
     return None
 
 
+def shown(expected, answered, at):
+    """The lines that differ, as docs/where reads them again (MOVED)."""
+    was, now = ([*lines, "(no more lines)"][min(at, len(lines))] for lines in (expected, answered))
+    return f"{was} (now {now})"
+
+
 def of_sessions(path, name):
     from reading import sessions
     for one in sessions(path):
-        wanted = [(step.line, line) for step in one.steps for line in step.answer]
-        at = first_other([line for _, line in wanted], play(one.script().encode(), one.kwords, one.files))
+        asked, expected = map(list, zip(*((step.line, line) for step in one.steps for line in step.answer)))
+        answered = play(one.script().encode(), one.kwords, one.files)
+        at = first_other(expected, answered)
         if at is not None:
-            asked, line = wanted[min(at, len(wanted) - 1)]
-            yield f"{name}:{one.at}: {one.name}: > {asked}: {line}"
+            yield f"{name}:{one.at}: {one.name}: > {asked[min(at, len(asked) - 1)]}: {shown(expected, answered, at)}"
 
 
 def of_example(path, name):
@@ -108,9 +114,10 @@ def of_example(path, name):
     if "arguments" in settings or settings.get("status", "0") != "0":
         return
     wanted = read(folder, "expect").decode("ascii", "backslashreplace").splitlines()
-    at = first_other(wanted, play(read(path), kwords, dict(hex_files(folder, "files"))))
+    answered = play(read(path), kwords, dict(hex_files(folder, "files")))
+    at = first_other(wanted, answered)
     if at is not None:
-        yield f"{os.path.dirname(name)}: {(wanted + ['(no more lines)'])[at]}"
+        yield f"{os.path.dirname(name)}: {shown(wanted, answered, at)}"
 
 
 def of_script(path, name):
@@ -120,10 +127,10 @@ def of_script(path, name):
         with open(file, "rb") as data:
             packs[f"examples/{os.path.basename(file)}"] = data.read()
     with open(path, "rb") as file, open(path[:-4] + ".out", encoding="ascii") as out:
-        wanted = out.read().splitlines()
-        at = first_other(wanted, play(file.read(), 28, packs))
+        wanted, answered = out.read().splitlines(), play(file.read(), 28, packs)
+    at = first_other(wanted, answered)
     if at is not None:
-        yield f"{name[:-4]}.out:{at + 1}: {(wanted + ['(no more lines)'])[at]}"
+        yield f"{name[:-4]}.out:{at + 1}: {shown(wanted, answered, at)}"
 
 
 def main():

@@ -29,6 +29,10 @@ STOP turns 48 001000
 > examine 777404
 EXAM 777404 000204
 
+= a WAIT idles when the seek is done
+> mount 0 empty rw; deposit 777412 100; deposit 777404 11; deposit 1000 1; set 7 1000; continue 100
+STOP idle 18 001002
+
 = a seek that nobody waits for
 > mount 0 empty rw; deposit 777404 11; examine 777404
 EXAM 777404 000210
@@ -45,9 +49,11 @@ WANTED = [
     "model/pdp11/disk.py:",
     ": Worked: heads at cylinder 0, RKDA at cylinder 2",
     "with 17 for 16 at model/pdp11/disk.py:",
-    "sessions that answer something else: 2",
-    ": a seek over two cylinders is due in turn 18: > examine 777404: EXAM 777404 020210",
-    ": a read ends in turn 48: > examine 777404: EXAM 777404 000204",
+    "sessions that answer something else: 3",
+    ": a seek over two cylinders is due in turn 18: > examine 777404: EXAM 777404 020210 (now EXAM 777404 000210)",
+    ": a read ends in turn 48: > examine 777404: EXAM 777404 000204 (now EXAM 777404 000004)",
+    ": a WAIT idles when the seek is done: > continue 100: STOP idle 18 001002 (now STOP idle 19 001002)",
+    ": 000111 (IDE, seek, GO) at 777404.",
 ]
 
 

@@ -1,3 +1,4 @@
+# shellcheck shell=bash disable=SC2154
 # What tests/terminal and soak/terminal share: a shell in a real terminal, which tmux gives, whose folder is $work, and keys and
 # looks at its screen. To be sourced by bash, with $name, the script's name, and $top, the repository.
 
@@ -23,8 +24,7 @@ count() { tmux capture-pane -p -S - -t "$session" | grep -cF -- "$1" || true; }
 
 # Waits until a command ends well, for so many tenths of a second at most.
 wait_until() {
-    local tries
-    for tries in $(seq 1 "$1"); do
+    for _ in $(seq 1 "$1"); do
         if "${@:2}"; then return 0; fi
         sleep 0.1
     done
