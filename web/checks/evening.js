@@ -1,7 +1,7 @@
 // One session as a person has it, by real keys and mouse events: the monitor talked to, the line clock by the wall, a paste of
 // 10,000 characters, a program toggled in at the panel, the page closed and opened again, a pack dropped, changed and
 // downloaded. The record of it all is then played by ./p11, which has to come to the same typed bytes, registers, devices and
-// memory; and with one tick left out it may not.
+// memory; and without its ticks it may not.
 'use strict';
 const assert = require('assert'), fs = require('fs'), path = require('path');
 const { sleep } = require('./page.js');
@@ -124,10 +124,10 @@ async function evening({ page, url, native, examples, say }) {
   say(`a record of ${lines.length - 1} lines, ${ticks} of them ticks: ./p11 comes to the same ${typed.length} typed bytes, `
     + 'the same state and the same pack');
 
-  // The planted fault: without one tick it may not.
-  lines.splice(lines.indexOf('tick'), 1);
-  assert.throws(() => agree(lines.join('\n'), typed, state, native), /differ/);
-  say('with one tick left out of the record it does not');
+  // The planted fault: the monitor, which counts ticks and was asked for them, has none. (One alone may not be missed: a tick that
+  // comes before the interrupt of the one before is served asks for no second one.)
+  assert.throws(() => agree(lines.filter((line) => line !== 'tick').join('\n'), typed, state, native), /differ/);
+  say('without its ticks it does not');
   return { record, answers: play(record, native) };
 }
 
