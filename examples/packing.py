@@ -24,15 +24,18 @@ def names_in(script, others=()):
     return [name for name in names if name != EVERYWHERE and not (name in made and not os.path.exists(name))]
 
 
-def packed(place, memory, others=()):
-    """The bytes of the archive of the script at a place; others are files that it is to have too."""
-    if memory not in range(4, 125, 4):
+def packed(place, memory=None, others=()):
+    """The bytes of the archive of the script at a place; others are files that it is to have too. Where its memory isn't named, the
+    script is as it was, so that its lines keep their numbers."""
+    if memory is not None and memory not in range(4, 125, 4):
         raise ValueError(f"there is no machine of {memory} thousand words")
     with open(place, "rb") as file:
         script = file.read()
+    if memory is not None:
+        script = b"# memory %d\n" % memory + script
     made = io.BytesIO()
     with zipfile.ZipFile(made, "w", zipfile.ZIP_DEFLATED) as archive:
-        contents = {"session.p11": b"# memory %d\n" % memory + script}
+        contents = {"session.p11": script}
         for name in names_in(script, others):
             with open(name, "rb") as file:
                 contents[name] = file.read()
