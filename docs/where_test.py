@@ -66,8 +66,8 @@ def main():
     lacking = [line for line in WANTED if line not in done.stdout]
     wrong = [f"it doesn't list: {line}" for line in lacking]
     wrong += [f"its exit status is {done.returncode}"] if done.returncode else []
-    refused = subprocess.run([os.path.join(HERE, "where"), "no_such"], stderr=subprocess.DEVNULL)
-    wrong += ["a name that is none isn't refused"] if refused.returncode != 1 else []
+    refused = subprocess.run([os.path.join(HERE, "where"), "seek"], stderr=subprocess.PIPE, text=True)
+    wrong += ["a name that is none isn't refused, with those that are like it"] if refused.returncode != 1 or "seek_turn" not in refused.stderr else []
     for line in wrong:
         print(f"docs/where_test.py: {line}")
     print(f"docs/where_test.py: {len(WANTED)} places of a turn more for a seek, {len(wrong)} faults")
