@@ -1,13 +1,14 @@
-"""Edits of one crate that one check can try together: no one's function leads by calls to what another one changes.
+"""Edits of one crate that one check can try together: no two change one function.
 
-The prover takes a function that is called by its contract alone, so a change of one body leaves open no goal of another
-function. That no function calls a changed one makes sure of it.
+The prover takes a function that is called by its contract alone, so a change of one body leaves open no goal of another function, and
+an edit is judged by the goals of its own one (verdict.py). A function that an edit changes and isn't judged by may have no contract:
+no other edit's function leads to it by calls.
 """
 import re
 
 from functions import functions, name_at
 
-MOST = 8
+MOST = 12
 
 
 def last(name):
@@ -43,17 +44,26 @@ def changed(edit, sources):
     return found
 
 
+class Reach:
+    """What an edit changes, the function by which it is judged, what it changes besides, and which functions that one leads to."""
+
+    def __init__(self, edit, sources, calls):
+        self.changed, self.judged = changed(edit, sources), last(edit.judged())
+        self.besides = (self.changed or set()) - {self.judged}
+        self.led_to = calls.reached(self.judged)
+
+    def stands_beside(self, other):
+        return (self.changed is not None and other.changed is not None
+                and not (self.changed | {self.judged}) & (other.changed | {other.judged})
+                and not self.besides & other.led_to and not other.besides & self.led_to)
+
+
 def batches(edits, sources):
     """The edits in lists, each to be tried together; the sources are the crate's, by their paths in it."""
     calls, found = Calls(sources), []
-    facts = {edit: (changed(edit, sources), calls.reached(edit.judged())) for edit in edits}
-
-    def fits(edit, other):
-        (own, reached), (others, others_reached) = facts[edit], facts[other]
-        return own and others and not own & others_reached and not others & reached
-
+    reaches = {edit: Reach(edit, sources, calls) for edit in edits}
     for edit in edits:
-        place = next((it for it in found if len(it) < MOST and all(fits(edit, other) for other in it)), None)
+        place = next((it for it in found if len(it) < MOST and all(reaches[edit].stands_beside(reaches[other]) for other in it)), None)
         if place is None:
             found.append(place := [])
         place.append(edit)
