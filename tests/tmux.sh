@@ -31,11 +31,14 @@ wait_until() {
     return 1
 }
 
+# Tenths of a second in which the screen shows what is waited for.
+PATIENCE=600
+
 shows() { show | grep -qF -- "$1"; }
 shows_more() { [ "$(count "$1")" -gt "$2" ]; }
 
-# Waits until the screen shows a text, for 20 seconds at most.
-wait_for() { wait_until 200 shows "$1" || fail "the screen doesn't show: $1"; }
+# Waits until the screen shows a text. It may have stood there before: behind `start` and `type_anew` none has.
+wait_for() { wait_until "$PATIENCE" shows "$1" || fail "the screen doesn't show: $1"; }
 
 # Does something, and waits until a text stands on one more line than before: one that stood there doesn't count.
 for_another() {
@@ -43,7 +46,7 @@ for_another() {
     before=$(count "$text")
     shift
     "$@"
-    wait_until "${PATIENCE:-200}" shows_more "$text" "$before" || fail "the screen doesn't show once more: $text"
+    wait_until "$PATIENCE" shows_more "$text" "$before" || fail "the screen doesn't show once more: $text"
 }
 
 # Ends the session that is left, and what was made.
@@ -52,23 +55,31 @@ clean() {
     rm -rf "$work"
 }
 
+# Types a line to the shell, on a screen that has nothing but its prompt. The line clears the screen once more, of itself.
+has_prompt_alone() { [ "$(show)" = "host>" ]; }
+type_anew() {
+    line clear
+    wait_until "$PATIENCE" has_prompt_alone || fail "the shell doesn't clear the screen"
+    line "clear; $1"
+}
+
 # Whether the host's terminal is set as it was.
 is_restored() {
     keys C-u
-    line "clear; stty -a | grep -v rows >after; echo looked''-$1"
+    type_anew "stty -a | grep -v rows >after; echo looked''-$1"
     wait_for "looked-$1"
     cmp -s "$work/before" "$work/after" || fail "the host's terminal isn't as before, after $1"
     say "$1: the host's terminal is as before"
 }
 
 # Sits down at the machine, in a terminal that is cleared first.
-start() { line "clear; '$top/terminal' $1"; }
+start() { type_anew "'$top/terminal' $1"; }
 
 # Leaves: by a second quit where the first one tells of a pack that no file has.
 left_or_asked() { show | grep -qE '^host>|A second quit leaves'; }
 leave() {
     line quit
-    wait_until 200 left_or_asked || fail "quit isn't answered"
+    wait_until "$PATIENCE" left_or_asked || fail "quit isn't answered"
     if show | grep -q '^host>'; then return 0; fi
     line quit
     wait_for "host>"
