@@ -3,6 +3,7 @@
 Both have type(text), which presses keys; answer(until), which lets the machine go on until what it typed since the last
 call ends with this text, or for so long, and gives what was typed; and end().
 """
+import atexit
 import os
 import pty
 import re
@@ -12,6 +13,8 @@ import time
 
 LOADER = "deposit 1000 12700 177406 12710 177400 12740 5 105710 100376 5007"
 SLICE = 200_000
+# Seconds for an answer of SIMH, also on a host that has much else to do.
+PATIENCE = 600
 
 
 class Stuck(Exception):
@@ -80,6 +83,7 @@ class Simh:
             file.write("\n".join([*self.SETTINGS, f"attach rk0 {pack}", "boot rk0", "detach all", "quit"]) + "\n")
         self.keys, terminal = pty.openpty()
         self.console = subprocess.Popen([program, script], stdin=terminal, stdout=terminal)
+        atexit.register(self.console.kill)
         os.close(terminal)
         self.typed = ""
 
@@ -87,17 +91,17 @@ class Simh:
         os.write(self.keys, text.encode("latin-1"))
 
     def read(self):
-        """What it has typed up to now; nothing once it has ended."""
+        """What it has typed up to now; None once it has ended."""
         try:
             return os.read(self.keys, 65536).decode("latin-1") if select.select([self.keys], [], [], 0.1)[0] else ""
         except OSError:
-            return ""
+            return None
 
-    def answer(self, until, seconds=20.0):
-        """What was typed, once it ends so, or when it took too long."""
-        limit = time.monotonic() + seconds
-        while time.monotonic() < limit and not self.typed.endswith(until):
-            self.typed += self.read()
+    def answer(self, until):
+        """What was typed, once it ends so, when SIMH has ended, or when it took too long."""
+        limit = time.monotonic() + PATIENCE
+        while time.monotonic() < limit and not self.typed.endswith(until) and (some := self.read()) is not None:
+            self.typed += some
         typed, self.typed = self.typed, ""
         return typed
 
