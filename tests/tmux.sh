@@ -7,6 +7,8 @@ for tool in tmux pgrep; do
 done
 work=$(mktemp -d)
 session=p11-$$
+# Packs that are kept of a dialogue which is cut off go there, and not into the user's folder.
+export XDG_STATE_HOME=$work/state
 
 say() { echo "$name: $1"; }
 fail() {
@@ -91,7 +93,7 @@ program_pid() { pgrep -P "$(launcher_pid)" | head -1; }
 
 trap clean EXIT
 "$top/build" p11_terminal >/dev/null || exit 4
-tmux new-session -d -s "$session" -x 100 -y 40 -c "$work" 'bash --norc --noprofile'
+tmux new-session -d -s "$session" -x 100 -y 40 -c "$work" "XDG_STATE_HOME='$XDG_STATE_HOME' exec bash --norc --noprofile"
 line "PS1='host> '"
 line "stty -a | grep -v rows >before; echo looked''-before"
 wait_for "looked-before"
