@@ -45,7 +45,7 @@ function line(host, text) {
   host.onscreen = (bytes, isTyped) => { if (!isTyped) said += textOf(bytes); onscreen(bytes, isTyped); };
   const rests = () => { while (host.want !== WANT.keys || host.queue.length > 0) host.step(1000000); };
   rests();
-  if (said.endsWith('(y, or another key)? ')) host.type('y');
+  if (isQuestion(said)) host.type('y');
   rests();
   host.onscreen = onscreen;
   return said.slice(said.lastIndexOf(`${text}\n`) + text.length + 1).replace(/p11> $/, '');

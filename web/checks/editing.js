@@ -1,8 +1,15 @@
 // The console in the page by real keys: completion of words and of the names of files that ship with the page, editing, the history, which a
-// further machine has too, a question, and the end of a dialogue, whose session stays kept.
+// further machine has too, a question, which may stand while the page is closed, and the end of a dialogue, whose session stays kept.
 'use strict';
 const assert = require('assert');
+const { sleep } = require('./page.js');
 const { kept } = require('./evening.js');
+const { isBack, keptWhole } = require('./back.js');
+
+// A pack on drive 2 with a sector that no file has.
+const CHANGES = 'mount 2 /dev/null rw\rdeposit 1000 777\rstart 1000\rdeposit 777410 1000\rdeposit 777406 177400\rdeposit 777412 40000\r'
+  + 'deposit 777404 3\rstep 200\r';
+const KEEPS_MS = 2500;   // in which the changed pages are kept where they may be
 
 async function editing({ page, say }) {
   const shows = (text, times = 1) => page.until(`app.view.text().split(${JSON.stringify(text)}).length - 1 >= ${times}`);
@@ -40,8 +47,7 @@ async function asked({ page, say }) {
   const at = 'li[data-drive="2"]', find = (name) => `document.querySelector('${at} .${name}')`;
   await page.eval('app.sessions.fresh(28)');
   await page.click('#screen');
-  await page.type('mount 2 /dev/null rw\rdeposit 1000 777\rstart 1000\rdeposit 777410 1000\rdeposit 777406 177400\rdeposit 777412 40000\r'
-    + 'deposit 777404 3\rstep 200\rtalk\r');
+  await page.type(`${CHANGES}talk\r`);
   await page.until(`app.desk.isRunning && ${find('changed')}.textContent === '1 changed'`);
   for (const [key, isOff] of [['n', false], ['y', true]]) {
     await page.click(`${at} .off`);
@@ -57,4 +63,30 @@ async function asked({ page, say }) {
   say('a pack with sectors that no file has is taken off behind a question, and the run that it was taken off in goes on');
 }
 
-module.exports = { editing, asked };
+// A page that is closed while a question stands is back at the prompt: nothing was done, and the next key is taken.
+async function unanswered({ page, url, say }) {
+  const record = () => page.eval("app.link.ask('record')");
+  await page.eval('app.sessions.fresh(28)');
+  await page.eval("app.sessions.put('mine', new Uint8Array(1))");
+  await page.click('#screen');
+  await page.type(`${CHANGES}deposit 5000 4521\r`);
+  await page.until("app.view.text().trimEnd().endsWith('p11> deposit 5000 4521\\nOK\\np11>')");
+  for (const [line, question] of [['unmount 2', 'Drive 2 has sectors that no file has: lose them'], ['save 2 mine', 'mine is there: write over it']]) {
+    await keptWhole(page);
+    const was = await record();
+    await page.type(`${line}\r`);
+    await page.until(`app.view.text().trimEnd().endsWith('${question} (y, or another key)?')`);
+    await page.eval(`app.sessions.put('${line}', new Uint8Array(1))`);   // a page is another one
+    await sleep(KEEPS_MS);
+    await page.reopen(url);
+    await isBack(page);
+    await page.until("app.view.text().trimEnd().endsWith('p11>')");
+    assert.equal(await record(), was, `behind "${line}" the record is another`);
+    await page.click('#screen');
+    await page.type('examine 5000\r');
+    await page.until("app.view.text().trimEnd().endsWith('p11> examine 5000\\nEXAM 005000 004521\\np11>')");
+  }
+  say('a page that is closed at a question is back at the prompt, where the next key is taken');
+}
+
+module.exports = { editing, asked, unanswered };

@@ -13,7 +13,7 @@ const { badFiles, trap, policy, lacking } = require('./bad.js');
 const { looks, names, keyboard, glass } = require('./looks.js');
 const { tabs, list, full, earlier } = require('./tabs.js');
 const { presses } = require('./presses.js');
-const { editing, asked } = require('./editing.js');
+const { editing, asked, unanswered } = require('./editing.js');
 const { cases } = require('./cases.js');
 const { back, stopped, scripted, kills } = require('./back.js');
 const { cuts } = require('./cuts.js');
@@ -38,7 +38,7 @@ async function checked(command, { made, p11, examples, casesFile }) {
   };
   try {
     await run(plays, await run(evening));
-    for (const next of [boots, editing, asked, presses, kinds, badFiles, keyboard, names, looks, glass, pace, sizes, copies]) await run(next);
+    for (const next of [boots, editing, asked, unanswered, presses, kinds, badFiles, keyboard, names, looks, glass, pace, sizes, copies]) await run(next);
     for (const next of [link, beside, tabs, list, full, earlier, policy, lacking]) await run(next);
     for (const next of [packed, back, stopped, scripted, kills, cuts, random, dialogues]) await run(next);
     const told = await run(cases);

@@ -5,7 +5,7 @@
 // No DOM and no timers: whoever has it makes steps as often as it likes. Works in node too.
 'use strict';
 
-const MOST_TURNS = 100000000, NO_FILE_NAME = '/dev/null', AGAIN = 'the-record', PROMPT = 'p11> ';
+const MOST_TURNS = 100000000, NO_FILE_NAME = '/dev/null', AGAIN = 'the-record', PROMPT = 'p11> ', QUESTION = '(y, or another key)? ';
 const INTERRUPT = 3, ESCAPE = 5, END_KEY = 5, CUT_FRONT = 21, MOST_KEYS = 64;
 
 // So many turns as lines of a record.
@@ -31,6 +31,7 @@ class Host {
     this.isTalk = false;      // whether the line that was typed last is a talk
     this.isScripted = script !== undefined;   // whether lines of a file may be under way
     this.isAtPrompt = false;  // whether the screen ends with the prompt, and no line is begun
+    this.isAsked = false;     // whether it ends with a question
     this.isAgain = false;     // whether a record is played again
     this.files = new Map();   // what lies where, by name
     this.written = [];        // the names that may be written over unasked
@@ -60,9 +61,10 @@ class Host {
     return host;
   }
 
-  // Whether it can be told by its record behind this: nothing waits, and no line is half done.
+  // Whether it can be told by its record behind this: nothing waits, and no line is half done or asks.
   isClean() {
-    return this.waiting === 0 && this.ticks === 0 && !this.isAgain && (this.want === WANT.keys || this.want === WANT.idle || (this.want === WANT.step && this.isRunning));
+    const { want } = this, isBetween = want === WANT.keys || want === WANT.idle || (want === WANT.step && this.isRunning);
+    return isBetween && this.waiting === 0 && this.ticks === 0 && !this.isAgain && !this.isAsked;
   }
 
   regs() { return this.console.regs(); }
@@ -120,6 +122,7 @@ class Host {
     const bytes = this.console.screen();
     if (bytes.length === 0) return;
     this.isAtPrompt = !this.hasSliced && textOf(bytes.subarray(-PROMPT.length)) === PROMPT;
+    this.isAsked = !this.hasSliced && isQuestion(textOf(bytes.subarray(-QUESTION.length)));
     if (this.isAtPrompt) Object.assign(this, { isRunning: false, isScripted: false });
     const meant = /^= (.*)\n/.exec(textOf(bytes.subarray(0, 100)));
     if (meant && !this.hasSliced) this.isTalk = isTalk(meant[1]);
@@ -225,7 +228,7 @@ class Host {
   }
 }
 
-const isTalk = (line) => /^\s*(talk|continue)\s*$/.test(line);
+const isTalk = (line) => /^\s*(talk|continue)\s*$/.test(line), isQuestion = (text) => text.endsWith(QUESTION);
 
 // The lines that were recorded since a state: of the first runs the turns that were made by then are left out.
 function tailOf({ lines: from, own }, lines, steps) {

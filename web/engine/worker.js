@@ -307,8 +307,8 @@ class Engine {
 // A trap of the module, or a stack that is used up, which Firefox calls an InternalError.
 const isTrap = (error) => error instanceof WebAssembly.RuntimeError || error instanceof RangeError || error?.name === 'InternalError';
 
-// Whether what was said of a line is a refusal, by the console or by a person; whether it ends with a question.
-const isRefused = (text) => /^\? \d+ |\? no$/m.test(text), isQuestion = (text) => text.endsWith('(y, or another key)? ');
+// Whether what was said of a line is a refusal, by the console or by a person.
+const isRefused = (text) => /^\? \d+ |\? no$/m.test(text);
 
 // How many turns the next slice has, where one of so many took so long: twice as many at most, or half.
 function nextSlice(turns, took) {
