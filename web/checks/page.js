@@ -16,13 +16,16 @@
 'use strict';
 const fs = require('fs');
 
+const MOST_MS = +(process.env.UNTIL ?? 120000);   // how long anything is waited for
 const sleep = (ms) => new Promise((done) => { setTimeout(done, ms); });
 const KEYS = { '\r': 'Enter', '\b': 'Backspace', '\t': 'Tab' };
 
 class Page {
   constructor() { this.errors = []; }
 
+  // The page that is there may stay for a while.
   async goTo(url) {
+    await this.eval('delete document.documentElement.dataset.ready');
     await this.navigate(url);
     await this.until("document.documentElement.dataset.ready === 'yes'");
   }
@@ -33,8 +36,8 @@ class Page {
     await this.goTo(url);
   }
 
-  async until(expression, ms = +(process.env.UNTIL ?? 120000)) {
-    for (const end = Date.now() + ms; ;) {
+  async until(expression) {
+    for (const end = Date.now() + MOST_MS; ;) {
       if (await this.eval(expression).catch(() => false)) return;
       if (Date.now() > end) throw new Error(`never came: ${expression}; errors of the page: ${this.errors.join(' | ')}`);
       await sleep(20);
@@ -52,10 +55,22 @@ class Page {
   }
 
   async click(selector) {
-    await this.until(`document.querySelector(${JSON.stringify(selector)}) !== null`);
-    const at = await this.eval(`(() => { const it = document.querySelector(${JSON.stringify(selector)}); it.scrollIntoView({ block: 'nearest' });
-      const { x, y, width, height } = it.getBoundingClientRect(); return { x: Math.round(x + width / 2), y: Math.round(y + height / 2) }; })()`);
+    const at = await this.middleOf(selector);
     await this.mouse(['move', 'down', 'up'].map((step) => ({ at: step, ...at })));
+  }
+
+  // The middle of an element, once the mouse comes to it there and it lies still.
+  async middleOf(selector) {
+    const look = `(() => { const it = document.querySelector(${JSON.stringify(selector)}); it.scrollIntoView({ block: 'nearest' });
+      const { left, right, top, bottom } = it.getBoundingClientRect(), x = Math.round((left + right) / 2), y = Math.round((top + bottom) / 2);
+      return it.contains(document.elementFromPoint(x, y)) ? { x, y } : null; })()`;
+    for (let end = Date.now() + MOST_MS, was = null; ;) {
+      const at = await this.eval(look).catch(() => null);
+      if (at && at.x === was?.x && at.y === was.y) return at;
+      if (Date.now() > end) throw new Error(`nothing can be clicked at ${selector}`);
+      was = at;
+      await sleep(20);
+    }
   }
 
   // Selects by the mouse from the beginning of an element's text to its end.
@@ -68,11 +83,6 @@ class Page {
       { at: 'move', x: left + 1, y }, { at: 'down', x: left + 1, y }, { at: 'move', x: Math.round((left + right) / 2), y },
       { at: 'move', x: right + 2, y }, { at: 'up', x: right + 2, y },
     ]);
-  }
-
-  async copied() {
-    await this.key('c', { ctrl: true });
-    return this.eval('navigator.clipboard.readText()');
   }
 
   async paste(text) {
@@ -90,4 +100,4 @@ class Page {
   }
 }
 
-module.exports = { Page, sleep };
+module.exports = { Page, sleep, MOST_MS };

@@ -98,10 +98,11 @@ async function copies({ page, say }) {
   await page.eval('app.sessions.fresh(28)');
   await page.click('#screen');
   await page.type('regs\r');
-  await page.until("document.querySelector('.now').textContent.includes('TURN 0 ready')");
+  await page.until("/TURN 0 ready\\s*p11>\\s*$/.test(document.querySelector('.now').textContent)");
   const line = await page.eval("[...document.querySelectorAll('.now div')].findLastIndex((it) => it.textContent.startsWith('REGS')) + 1");
   await page.select(`.now div:nth-child(${line})`);
-  assert.equal((await page.copied()).trim(), 'REGS 000000 000000 000000 000000 000000 000000');
+  await page.key('c', { ctrl: true });
+  await page.until("navigator.clipboard.readText().then((it) => it.trim() === 'REGS 000000 000000 000000 000000 000000 000000')");
   await page.click('#screen');
   await page.type('x\x03');
   await page.until("/p11> x\\^C\\np11>/.test(app.view.text())");

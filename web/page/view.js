@@ -92,7 +92,8 @@ class View {
     if (said !== '') this.spoken.textContent = said;
   }
 
-  text() { return this.back.textContent + this.screen.cells.map((row) => flat(row).trimEnd()).join('\n'); }
+  // All of it, also what scrolled off since it was painted.
+  text() { return this.back.textContent + [...this.screen.gone, ...this.screen.cells].map((row) => flat(row).trimEnd()).join('\n'); }
 }
 
 const flat = (row) => row.map((cell) => cell.shown ?? cell).join('');
