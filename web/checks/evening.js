@@ -4,10 +4,10 @@
 // memory; and without its ticks it may not.
 'use strict';
 const assert = require('assert'), fs = require('fs'), path = require('path');
-const { sleep } = require('./page.js');
+const { sleep, MOST_MS } = require('./page.js');
 const { play, listen, heard, stateOf, agree, withoutRemark } = require('./compare.js');
 
-const PASTED = 'e 3000\r'.repeat(1428) + '\r'.repeat(4);
+const PASTED = 'e 3000\r'.repeat(1428) + '\r'.repeat(4), TICKS = 31;
 
 async function evening({ page, url, native, examples, say }) {
   const { folder } = native;
@@ -18,6 +18,7 @@ async function evening({ page, url, native, examples, say }) {
   await listen(page);
   await page.click('[data-boot=monitor]');
   await shows('MONITOR');
+  await page.click('#screen');
   await page.type('e 20\r');
   await shows('000020 047515');
   await page.type('d 3000 123\re 3000\r');
@@ -28,10 +29,10 @@ async function evening({ page, url, native, examples, say }) {
   await page.key('ArrowDown');
   await page.key('ArrowDown');
   assert.equal(await page.eval("document.querySelector('#hertz').value"), '60');
-  await sleep(1500);
+  await page.until(`app.link.ask('record').then((it) => (it.match(/^tick$/gm) ?? []).length >= ${TICKS})`);
   await page.click('#screen');
   await page.type('t\r');
-  await sleep(300);
+  await page.until("/t\\r\\n\\d{6}\\r\\n\\.$/.test(heard)");
   await page.eval("document.querySelector('#hertz').focus()");
   await page.key('ArrowUp');
   await page.key('ArrowUp');
@@ -39,7 +40,7 @@ async function evening({ page, url, native, examples, say }) {
 
   const before = (await heard(page)).length;
   await page.paste(PASTED);
-  await page.until(`heard.length > ${before + PASTED.length} && app.panel.lamps.keys === 0 && app.panel.lamps.isIdle`, 120000);
+  await page.until(`heard.length > ${before + PASTED.length} && app.panel.lamps.keys === 0 && app.panel.lamps.isIdle`);
   assert(keysIn(await page.eval("app.link.ask('record')")).endsWith(PASTED), 'not all keys that were pasted came to the machine');
   say('10,000 characters were pasted, and each came to the machine');
   await page.type('\x05');
@@ -120,7 +121,7 @@ async function evening({ page, url, native, examples, say }) {
   agree(record, typed, state, native);
   assert(saved.equals(fs.readFileSync(path.join(folder, 'drive1.rk05'))), 'the saved packs differ');
   const lines = record.split('\n'), ticks = lines.filter((line) => line === 'tick').length;
-  assert(ticks > 30, `only ${ticks} ticks`);
+  assert(ticks >= TICKS, `only ${ticks} ticks`);
   say(`a record of ${lines.length - 1} lines, ${ticks} of them ticks: ./p11 comes to the same ${typed.length} typed bytes, `
     + 'the same state and the same pack');
 
@@ -160,7 +161,7 @@ async function downloaded(page, folder, selector, name) {
   fs.rmSync(file, { force: true });
   await page.click(selector);
   const size = () => (fs.existsSync(file) && !fs.existsSync(file + '.part') ? fs.statSync(file).size : 0);
-  for (let n = 0; n < 3000 && size() === 0; n++) await sleep(20);
+  for (const end = Date.now() + MOST_MS; size() === 0 && Date.now() < end;) await sleep(20);
   for (let was = 0; was !== size(); await sleep(100)) was = size();
   const bytes = fs.readFileSync(file);
   fs.rmSync(file);
