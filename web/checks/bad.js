@@ -3,7 +3,7 @@
 'use strict';
 const assert = require('assert'), fs = require('fs'), path = require('path');
 const { downloaded } = require('./evening.js');
-const { sleep } = require('./page.js');
+const { sleep, MOST_MS } = require('./page.js');
 const { withoutRemark } = require('./compare.js');
 const { trapped } = require('./wasm.js');
 
@@ -27,7 +27,7 @@ async function badFiles({ page, native: { folder }, say }) {
     await note("packs can't be read: of a folder, drop the files that are in it.");
   }
   const answers = async (button, text) => {
-    await page.until("document.querySelector('#offer').innerText.startsWith('odd has 5 bytes, which aren\\'t whole sectors of 512. Is it a pack?')");
+    await page.until("app.offered && document.querySelector('#offer').innerText.startsWith('odd has 5 bytes, which aren\\'t whole sectors of 512. Is it a pack?')");
     await page.click(`#offer button:nth-of-type(${button})`);
     await note(text);
   };
@@ -79,7 +79,10 @@ async function policy({ page, url, say }) {
   })`);
   assert.deepEqual(broken, ['connect-src', 'img-src', 'script-src-elem']);
   assert.equal(await page.eval('globalThis.ran'), undefined, 'a script that is put into the page runs');
-  while (page.errors.length < before + told) await sleep(20);   // Firefox tells them as errors of the page
+  for (const end = Date.now() + MOST_MS; page.errors.length < before + told;) {   // Firefox tells them as errors of the page
+    assert(Date.now() < end, 'Firefox does not tell what it refused');
+    await sleep(20);
+  }
   page.errors.length = before;
   const without = await page.eval(`fetch('${url}').then((it) => it.text())
     .then((it) => new DOMParser().parseFromString(it, 'text/html').querySelector('noscript p').textContent)`);
