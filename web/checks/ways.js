@@ -12,7 +12,7 @@ async function plays({ page, native: { folder }, record, answers, say }) {
   const file = path.join(folder, 'again.p11');
   fs.writeFileSync(file, record, 'latin1');
   await page.drop(file);
-  await page.until(`heard.length >= ${typedIn(answers).length} && !app.desk.isRunning && app.view.text().trimEnd().endsWith('p11>')`, 60000);
+  await page.until(`heard.length >= ${typedIn(answers).length} && !app.desk.isRunning && app.view.text().trimEnd().endsWith('p11>')`);
   assert.equal(await page.eval('heard'), typedIn(answers), 'the record types something else in the page');
   const again = (await downloaded(page, folder, '#record', 'session.p11')).toString('latin1');
   assert.equal(again, record, 'the record of a played record is another');
@@ -59,7 +59,7 @@ async function beside({ page, url, examples, say }) {
 
 // The governor: in a second of the wall about so many turns as are asked for, and more without it.
 async function pace({ page, say }) {
-  const rate = () => page.eval(`(async () => { const turns = async () => (await app.link.ask('regs')).turns, from = await turns(), began = performance.now();
+  const rate = () => page.eval(`(async () => { const turns = async () => (await app.link.ask('regs')).turns, began = performance.now(), from = await turns();
     await new Promise((done) => setTimeout(done, 2000)); return Math.round((await turns() - from) / (performance.now() - began) * 1000); })()`);
   await page.eval("(async () => { await app.sessions.fresh(28); app.setPace(400000); })()");
   await page.click('#screen');
@@ -88,7 +88,7 @@ async function sizes({ page, examples, say }) {
   await page.until("/greeting.tape: \\d+ bytes are in memory; to run it: start 001000/.test(document.querySelector('#note').textContent)");
   await page.click('#screen');
   await page.type('set 6 1000\rstart 1000\rcontinue 10000\r');
-  await page.until("/STOP (halt|idle) \\d+ \\d+\\np11>/.test(app.view.text())");
+  await page.until("/p11> continue 10000\\n[^]*STOP (halt|idle) \\d+ \\d+\\np11>/.test(app.view.text())");
   await page.eval('app.sessions.fresh(28)');
   say('a machine of 124 thousand words loads and runs a tape that is dropped');
 }
