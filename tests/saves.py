@@ -62,9 +62,10 @@ def kills(program, folder, count):
     left, good = 0, True
     for _ in range(count):
         child = begin(program, folder, mounts + "save 0 pack\nsave 1 pack\n" * 2000, subprocess.PIPE)
-        time.sleep(random.uniform(0.005, 0.06))
+        is_mounted = child.stdout.read(6) == b"OK\n" * 2
+        time.sleep(random.uniform(0, 0.05))
         child.kill()
-        good = good and b"?" not in child.stdout.read() and is_either(os.path.join(folder, "pack"))
+        good = good and is_mounted and b"?" not in child.stdout.read() and is_either(os.path.join(folder, "pack"))
         child.stdout.close()
         child.stdin.close()
         child.wait()
