@@ -75,7 +75,7 @@ def answers_of(command, script):
     with tempfile.NamedTemporaryFile("w") as file:
         file.write("\n".join(script) + "\n")
         file.flush()
-        done = subprocess.run(command + [file.name], stdin=subprocess.DEVNULL, capture_output=True, timeout=300)
+        done = subprocess.run(command + [file.name], stdin=subprocess.DEVNULL, capture_output=True, timeout=1800)
     return done.stdout.decode("latin-1").splitlines()
 
 
