@@ -71,7 +71,8 @@ async function unanswered({ page, url, say }) {
   await page.click('#screen');
   await page.type(`${CHANGES}deposit 5000 4521\r`);
   await page.until("app.view.text().trimEnd().endsWith('p11> deposit 5000 4521\\nOK\\np11>')");
-  for (const [line, question] of [['unmount 2', 'Drive 2 has sectors that no file has: lose them'], ['save 2 mine', 'mine is there: write over it']]) {
+  const questions = { 'unmount 2': 'Drive 2 has sectors that no file has: lose them', 'save 2 mine': 'mine is there: write over it' };
+  for (const [line, question] of Object.entries(questions)) {
     await keptWhole(page);
     const was = await record();
     await page.type(`${line}\r`);
