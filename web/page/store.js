@@ -4,7 +4,7 @@
 // Where the browser refuses it, store.refused says why, and nothing more is kept until a session begins that can be.
 'use strict';
 
-const MOST_SESSIONS = 20, TABLES = ['sessions', 'lines', 'files', 'pages'], HEAD = -2;
+const MOST_SESSIONS = 20, MOST_LINES = 200, TABLES = ['sessions', 'lines', 'files', 'pages'], HEAD = -2;
 const ofSession = (id) => IDBKeyRange.bound([id], [id, []]);
 
 const wait = (request) => new Promise((done, fail) => {
@@ -46,6 +46,7 @@ class Store {
   constructor() {
     this.db = null;
     this.session = null;      // { id, name, begun, used, kwords, steps, turns, count, bytes, isTalking }; count is that of lines
+    this.row = null;          // the last row of its lines
     this.claim = null;
     this.refused = '';
     this.loss = null;         // why the browser has lost what was kept, if it has
@@ -141,9 +142,17 @@ class Store {
     if (!session) return false;
     if (count > session.count) session.bytes += lines.reduce((sum, line) => sum + line.length + 1, 0);
     Object.assign(session, { steps, turns, used: Date.now(), count });
-    if (lines.length > 0) table('lines').put({ id: session.id, from, lines });
+    if (lines.length > 0) table('lines').put(this.rowWith(from, lines));
     table('sessions').put(session);
     return true;
+  }
+
+  // Lines come a few at a time, and many rows are slow to read: so they go into the last one, until it has MOST_LINES.
+  rowWith(from, lines) {
+    const { row, session: { id } } = this, isIn = row?.id === id && from >= row.from && from <= row.from + row.lines.length;
+    const isMore = isIn && row.lines.length < MOST_LINES;
+    this.row = isMore ? { id, from: row.from, lines: [...row.lines.slice(0, from - row.from), ...lines] } : { id, from, lines };
+    return this.row;
   }
 
   addPages(table, id, pages) {
@@ -195,6 +204,7 @@ class Store {
   resume({ session, lines }) {
     return this.change((table) => {
       this.session = Object.assign(session, { used: Date.now(), count: lines.length, bytes: session.bytes ?? 0 });
+      this.row = null;
       table('lines').delete(ofSession(session.id));
       table('lines').put({ id: session.id, from: 0, lines });
       table('sessions').put(session);
