@@ -141,4 +141,4 @@ async function kills({ command, url, native, say, count = KILLS }) {
   say(`the browser was killed ${count} times: nothing that was kept is lost, ${revived} times the session was back by its pages, and ./p11 comes to the same`);
 }
 
-module.exports = { back, stopped, scripted, kills, isBack, keptWhole };
+module.exports = { back, stopped, scripted, kills, isBack, keptWhole, COUNTS, MOST_MS };

@@ -5,7 +5,8 @@ const assert = require('assert'), crypto = require('crypto'), fs = require('fs')
 const { execFileSync } = require('child_process');
 const { typedIn } = require('./compare.js');
 
-const SESSIONS = 100, ACTS = 60, MOST_PLANTED = 10, STATES = ['regs', 'device', 'examine 0 512', 'examine 2000 512', 'examine 4000 512', 'examine 6000 512'];
+const SESSIONS = 100, AT_A_TIME = 50, ACTS = 60, MOST_PLANTED = 10, SCRIPTS = ['cuts-page.js', 'random-page.js'];
+const STATES = ['regs', 'device', 'examine 0 512', 'examine 2000 512', 'examine 4000 512', 'examine 6000 512'];
 
 // What differs between what the page came to and ./p11; nothing where they are the same.
 function differs({ kwords, record, typed, state, saved }, { p11, folder }) {
@@ -19,21 +20,30 @@ function differs({ kwords, record, typed, state, saved }, { p11, folder }) {
   return JSON.stringify(sums) === JSON.stringify(saved) ? '' : 'the saved packs';
 }
 
-async function random({ page, url, native, say }) {
+const some = (page, from, count, isMerged) => page.eval(`sessions(${JSON.stringify({ from, count, acts: ACTS, states: STATES, isMerged })})`);
+
+// Plays sessions of these numbers: how many bytes they typed, and how many packs they saved. Throws where ./p11 comes to something else.
+async function alike({ page, url, native, from, count }) {
   await page.navigate(`${url}tests/random.html`);
   await page.until("document.readyState === 'complete' && typeof sessions === 'function'");
   for (let pack = 1; pack <= 3; pack++) fs.writeFileSync(path.join(native.folder, `pack${pack}`), Uint8Array.from({ length: 40000 }, (_, at) => at * pack & 255));
-  const some = (from, count, isMerged) => page.eval(`sessions(${JSON.stringify({ from, count, acts: ACTS, states: STATES, isMerged })})`);
   let typed = 0, packs = 0;
-  for (const told of await some(1, SESSIONS, false)) {
-    assert.equal(differs(told, native), '', `session ${told.number}: ${told.record.slice(0, 2000)}`);
-    typed += told.typed.length;
-    packs += Object.keys(told.saved).length;
+  for (let done = 0; done < count; done += AT_A_TIME) {
+    for (const told of await some(page, from + done, Math.min(AT_A_TIME, count - done), false)) {
+      assert.equal(differs(told, native), '', `session ${told.number}: ${told.record.slice(0, 2000)}`);
+      typed += told.typed.length;
+      packs += Object.keys(told.saved).length;
+    }
   }
   assert(typed > 0 && packs > 0, 'nothing was typed or saved');
-  const planted = await some(1, MOST_PLANTED, true), at = planted.findIndex((told) => differs(told, native) !== '');
+  return { typed, packs };
+}
+
+async function random({ page, url, native, say }) {
+  const { typed, packs } = await alike({ page, url, native, from: 1, count: SESSIONS });
+  const planted = await some(page, 1, MOST_PLANTED, true), at = planted.findIndex((told) => differs(told, native) !== '');
   assert(at >= 0, `runs merged over a HALT are not seen in ${MOST_PLANTED} sessions`);
   say(`${SESSIONS} random sessions, ${typed.toLocaleString('en')} typed bytes and ${packs} packs: ./p11 comes to the same; runs merged over a HALT are seen in session ${at + 1}`);
 }
 
-module.exports = { random };
+module.exports = { random, alike, SCRIPTS };

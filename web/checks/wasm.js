@@ -1,7 +1,8 @@
 // trapped(module, name): the bytes of a WebAssembly module in which the call that is exported under a name is a trap.
+// narrowed(module): of one in whose table nothing lies, with a table of 32 bits.
 'use strict';
 
-const EXPORTS = 7, CODE = 10, FUNCTION = 0, UNREACHABLE = 0;
+const TABLES = 4, EXPORTS = 7, CODE = 10, FUNCTION = 0, UNREACHABLE = 0, IS_64 = 4;
 
 // Reads a module from a place on: numbers in LEB128, bytes and texts.
 class Reader {
@@ -60,4 +61,13 @@ function trapped(module, name) {
   return bytes.fill(UNREACHABLE, reader.at, end);
 }
 
-module.exports = { trapped };
+// A table is its type and its flags, in front of its limits.
+function narrowed(module) {
+  const bytes = Buffer.from(module), reader = section(bytes, TABLES);
+  reader.number();
+  reader.byte();
+  bytes[reader.at] &= ~IS_64;
+  return bytes;
+}
+
+module.exports = { trapped, narrowed };
