@@ -7,7 +7,7 @@ const { sleep } = require('./page.js');
 const { play, stateOf, STATE } = require('./compare.js');
 const { settle, kept } = require('./evening.js');
 
-const LINES = 100, TURNS = 50000000, MOST_MS = 2000, TRIES = 3, KILLS = 4, MOST_WAIT = 2500;
+const LINES = 100, TURNS = 50000000, MOST_MS = 2000, TRIES = 3, KILLS = 4, MOST_WAIT = 2500, LATE_MS = 2500;
 const COUNTS = 'deposit 1000 5267 1000 5200 10021 20127 20000 103402 12701 4000 766\rset 1 4000\rstart 1000\r';
 const record = (page) => page.eval("app.link.ask('record')");
 const turnsOf = (page) => page.eval("app.link.ask('regs').then((it) => it.turns)");
@@ -63,6 +63,33 @@ async function back({ page, url, say }) {
     say(isRevived ? `a session is back ${TURNS.toLocaleString('en')} turns later in ${Math.round(ms)} ms, and a key pressed meanwhile comes after`
       : `of another module the record is played again in ${Math.round(ms)} ms: the same machine`);
   }
+}
+
+// A session whose pages are older than its record, and which is slow to come back: nothing is kept of it before it is there.
+async function late({ page, say }) {
+  await page.eval('app.sessions.fresh(28)');
+  for (const line of COUNTS.trim().split('\r')) await attempt(page, line);
+  await page.eval('app.setClock(60)');
+  await page.eval('app.desk.talk()');
+  const grown = (lines) => page.until(`app.store.kept(app.store.session.id).then(({ lines, pages }) => pages !== null && lines.length >= pages.head.state.lines + ${lines})`);
+  await grown(0);
+  await page.eval("app.store.kept(app.store.session.id).then(({ pages }) => app.link.ask('kept', { machine: pages.head.machine, isKept: false }))");
+  await grown(20);
+  await page.eval('app.desk.halt()');
+  const state = await stateOf(page), was = await record(page), id = await page.eval('app.store.session.id');
+  await kept(page);
+  await page.eval('app.sessions.fresh(28)');
+  await page.eval(`(async () => {
+    const { link } = app, { ask } = link;
+    link.ask = async (call, args) => { if (call === 'again') await new Promise((done) => setTimeout(done, ${LATE_MS})); return ask.call(link, call, args); };
+    try { await app.sessions.reopen(${id}); } finally { link.ask = ask; }
+  })()`);
+  await page.until("!app.desk.isHeld && app.link.asked.size === 0 && app.view.text().trimEnd().endsWith('p11>')");
+  assert(await page.eval('app.back.isRevived'), 'the session is not back by its pages');
+  assert.equal(await record(page), was, 'the record is another');
+  assert.equal(await stateOf(page), state, 'registers, devices or memory are others');
+  await keptWhole(page);
+  say('a session that is slow to come back is the same, and so is what is kept of it');
 }
 
 // The record of a long run is played again with how far it is; a button ends that, and the session stays kept.
@@ -141,4 +168,4 @@ async function kills({ command, url, native, say, count = KILLS }) {
   say(`the browser was killed ${count} times: nothing that was kept is lost, ${revived} times the session was back by its pages, and ./p11 comes to the same`);
 }
 
-module.exports = { back, stopped, scripted, kills, isBack, keptWhole, COUNTS, MOST_MS };
+module.exports = { back, late, stopped, scripted, kills, isBack, keptWhole, COUNTS, MOST_MS };

@@ -29,6 +29,7 @@ class Engine {
     this.hertz = 0;            // ticks of the line clock in a second of the wall, or 0
     this.pace = 0;             // turns in a second at most, or 0: as fast as it goes
     this.isKeeping = false;    // whether pages that were taken aren't kept yet
+    this.left = null;          // lines that a session which goes on has still to do, before anything of it is kept; null behind them
     this.saying = null;        // lines of the page that are typed, and what is said meanwhile
     this.later = [];           // what is to be done behind them
     this.isMuted = false;      // whether what is said isn't shown
@@ -278,7 +279,7 @@ class Engine {
   // -- what the record has gained, for whoever keeps it: at once where something was done or the machine waits, else a few times
   // a second
   journal(isNow = true) {
-    if (this.isLost || !this.host || this.host.isAgain || this.typed) return;
+    if (this.isLost || !this.host || this.left || this.host.isAgain || this.typed) return;
     const { record, recorded, turns } = this.host, now = performance.now(), pages = this.changes(now);
     const isDue = isNow || record.length > this.sent.lines || now - this.at.journal >= JOURNAL_MS;
     if (!pages && (!isDue || (record.length === this.sent.lines && turns === this.sent.turns))) return;
@@ -345,8 +346,9 @@ const CALLS = {
     // Lines of a file that were under way are done again by the console itself.
     const lines = revived?.isScripted ? host.record.length : kept?.lines.length ?? 0;
     engine.begin(host, pages, lines);
-    if (revived?.isScripted) engine.left = [];
-    else if (kept) engine.left = revived ? tailOf(kept.pages.head.state, kept.lines, kept.steps) : [...kept.lines, ...stepsOf(kept.steps)];
+    if (!kept) engine.left = null;
+    else if (revived?.isScripted) engine.left = [];
+    else engine.left = revived ? tailOf(kept.pages.head.state, kept.lines, kept.steps) : [...kept.lines, ...stepsOf(kept.steps)];
     engine.all = kept && [...kept.lines, ...stepsOf(kept.steps)];
     return { isRevived: revived !== null, lines };
   },
@@ -364,6 +366,7 @@ const CALLS = {
       host.isThere(all);
       engine.tellRun();
     }
+    engine.left = null;
     return { typed, turns: host.turns, isRunning: host.isRunning };
   },
 
