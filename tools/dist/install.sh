@@ -2,9 +2,13 @@
 # install.sh [PREFIX]: puts the programs, the library for C, the manual pages, the documents and the examples below PREFIX
 # (/usr/local). install.sh --remove [PREFIX] takes away just these files, and the folders that only they had. Nothing has to
 # be installed: bin/p11 and bin/p11-terminal also run where they lie. Exit status 1: a file can't be written or taken away.
+
 set -eu
 
 from=$(dirname "$(readlink -f "$0")")
+case ${1-} in
+-h | --help) sed -n '2,/^$/s/^# \{0,1\}//p' "$0" && exit ;;
+esac
 removes=
 if [ "${1-}" = --remove ]; then
     removes=yes
@@ -20,7 +24,7 @@ files() { (cd "$from" && find bin include lib libexec share -type f | LC_ALL=C s
 
 remove() {
     files | while read -r file; do rm -f "$prefix/$file"; done
-    for folder in share/doc/p11 libexec/p11; do
+    for folder in share/doc/p11 libexec/p11 lib/p11; do
         [ -d "$prefix/$folder" ] || continue
         find "$prefix/$folder" -depth -path '*/__pycache__/*' -delete
         find "$prefix/$folder" -depth -type d -empty -delete
