@@ -22,21 +22,41 @@ esac
 
 files() { (cd "$from" && find bin include lib libexec share -type f | LC_ALL=C sort); }
 
+# The folders that an installation made, the outermost first.
+folders=$prefix/libexec/p11/folders
+
+# Makes a folder and those around it that aren't there, and names each.
+make_folder() {
+    [ ! -d "$1" ] || return 0
+    make_folder "$(dirname "$1")"
+    mkdir "$1"
+    echo "$1"
+}
+
 remove() {
+    made=$(LC_ALL=C sort -r "$folders" 2>/dev/null) || made=
     files | while read -r file; do rm -f "$prefix/$file"; done
+    rm -f "$folders"
     for folder in share/doc/p11 libexec/p11 lib/p11; do
         [ -d "$prefix/$folder" ] || continue
         find "$prefix/$folder" -depth -path '*/__pycache__/*' -delete
         find "$prefix/$folder" -depth -type d -empty -delete
     done
+    echo "$made" | while read -r folder; do
+        [ ! -d "$folder" ] || rmdir --ignore-fail-on-non-empty "$folder"
+    done
 }
 
 put() {
-    files | while read -r file; do
-        mkdir -p "$prefix/$(dirname "$file")"
-        if [ -x "$from/$file" ]; then mode=755; else mode=644; fi
-        install -m "$mode" "$from/$file" "$prefix/$file"
-    done
+    new=$(
+        make_folder "$prefix/libexec/p11"
+        files | while read -r file; do
+            make_folder "$prefix/$(dirname "$file")"
+            if [ -x "$from/$file" ]; then mode=755; else mode=644; fi
+            install -m "$mode" "$from/$file" "$prefix/$file"
+        done
+    )
+    [ ! "$new" ] || echo "$new" >>"$folders"
 }
 
 if [ "$removes" ]; then

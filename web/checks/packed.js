@@ -69,6 +69,7 @@ async function lesson({ page, made, native: { folder }, say }) {
   await opens('one.html');
   await hellos(page, 1);
   assert.equal(await page.eval('document.title'), 'First <lesson>');
+  assert((await page.eval("document.querySelector('footer').innerText")).endsWith('was put in later.'));
   await page.eval("app.desk.command('deposit 5000 4321')");
   fs.writeFileSync(path.join(folder, 'two.html'), await downloaded(page, folder, '#page', 'lesson.html'));
   await opens('two.html');

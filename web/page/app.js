@@ -196,6 +196,7 @@ class App {
     $('#theme').onclick = () => setFace(nextFace());
     setFace(keptFace());
     $('#proved').textContent = globalThis.P11_PROVED;
+    if (lessonIn()) $('#checked').after(' The program that it opens with was put in later.');
   }
 
   paint() {
