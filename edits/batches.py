@@ -8,7 +8,7 @@ import re
 
 from functions import functions, name_at
 
-MOST = 12
+MOST = 40
 
 
 def last(name):

@@ -8,7 +8,7 @@ import threading
 from edit import Bad
 from functions import place_of
 from proved import words_of_check
-from verdict import REFUSED, judge
+from verdict import REFUSED, judge, judge_start, written
 
 
 class Over(Exception):
@@ -60,11 +60,29 @@ class Bench:
         sources = dict(self.sources)
         for edit in edits:
             sources[edit.file] = edit.change(sources[edit.file])
-        names = dict.fromkeys(name for edit in edits for name in edit.names())
         self.write(sources)
-        text, seconds = self.checks.run([*self.words, *(word for name in names for word in ("--only", name))], self.folder)
+        found, seconds = self.start([edit for edit in edits if not edit.caller])
+        more, checking = self.check([edit for edit in edits if edit not in found], sources)
         self.write(self.sources)
-        return [(*judge(edit, text, *place_in(edit, sources)), seconds / len(edits)) for edit in edits]
+        return [(*(found | more)[edit], (seconds + checking) / len(edits)) for edit in edits]
+
+    def start(self, edits):
+        """The verdicts on those of these edits whose functions have no proof file of their own, and the seconds of processor."""
+        if not edits:
+            return {}, 0.0
+        text, seconds = self.checks.run([*self.words, *(word for edit in edits for word in ("--start", edit.function))], self.folder)
+        found = {edit: judge_start(edit, text, self.folder) for edit in edits}
+        for file in sum(written(text, edits[0].crate).values(), []):
+            os.remove(os.path.join(self.folder, file))
+        return {edit: outcome for edit, outcome in found.items() if outcome}, seconds
+
+    def check(self, edits, sources):
+        """The verdicts on these edits by the check of their functions and of what these call, and the seconds of processor."""
+        if not edits:
+            return {}, 0.0
+        names = dict.fromkeys(name for edit in edits for name in edit.names())
+        text, seconds = self.checks.run([*self.words, *(word for name in names for word in ("--only", name))], self.folder)
+        return {edit: judge(edit, text, *place_in(edit, sources)) for edit in edits}, seconds
 
     def write(self, sources):
         for path, text in sources.items():

@@ -1,9 +1,13 @@
-"""What the check of one function says of an edit: refused, bad or not refused, with what shows it.
+"""What the prover says of an edit: refused, bad or not refused, with what shows it.
 
-An edit is refused if the checker ran to its end, the function that the edit names was checked, and a goal of it isn't proved, or
+An edit is refused if the prover ran to its end, the function that the edit names was looked at, and a goal of it isn't proved, or
 of the caller that the edit names. All else that isn't proved shows nothing of a contract: a text that doesn't parse or type, a
 name that a proof file looks for in vain, a refusal elsewhere, a limit of the prover.
+
+A function that has no proof file of its own is judged by its goals that the prover's own search leaves open, for which it starts such
+a file (judge_start); one that has a file is checked (judge).
 """
+import os
 import re
 
 REFUSED, BAD, NOT_REFUSED = "refused", "bad", "not refused"
@@ -12,6 +16,10 @@ TOLD = re.compile(r"^(?:note: )?(?:\./)?(?P<file>(?:src|specs|proofs)/[^:\s]+):(
 OPEN = re.compile(r"not proved|error")
 NAMES_ALONE = re.compile(r"has no field|is not in scope|has no `|was not admitted")
 ENDED = re.compile(r"^only=\d+ proved=\d+$", re.M)
+STARTED = re.compile(r"^started=\d+$", re.M)
+WROTE = re.compile(r"^wrote \./(proofs/(\S+)/(?:Answers|Invariants|Proof)\.antt)$", re.M)
+NEEDS_NONE = re.compile(r"^note: `(\S+)` needs no (?:other )?file: nothing is left to choose or to answer$", re.M)
+HOLE = re.compile(r"^-- (\S+):\d+\n(?:.*\n)*?(\S+)(?: \w+)* = \?$", re.M)
 
 
 def named(functions, name):
@@ -29,6 +37,30 @@ def is_of(told, path, file, lines):
 def first_error(text):
     lines = [line for line in text.split("\n") if line.strip()]
     return next((line for line in lines if "error" in line), lines[-1] if lines else "it said nothing")
+
+
+def written(text, crate):
+    """The proof files that the prover has written, by function."""
+    found = {}
+    for file, place in WROTE.findall(text):
+        found.setdefault("::".join([crate, *place.split("/")]), []).append(file)
+    return found
+
+
+def judge_start(edit, text, folder):
+    """The verdict on an edit by what the prover left open of its function, in the proof file that it started in the crate's folder;
+    None where the function has to be checked: it has a file of its own, or no search alone can decide it."""
+    if not STARTED.search(text):
+        return None
+    files, proved = written(text, edit.crate), NEEDS_NONE.findall(text)
+    if path := named(proved, edit.judged()):
+        return NOT_REFUSED, f"{path} is still proved"
+    mine = files.get(named(files, edit.judged()), [])
+    if [os.path.basename(it) for it in mine] != ["Answers.antt"]:
+        return None
+    with open(os.path.join(folder, mine[0]), encoding="utf-8") as file:
+        hole = HOLE.search(file.read())
+    return (REFUSED, f"{hole[1]}: it is not proved: `{hole[2]}`") if hole else None
 
 
 def judge(edit, text, file, lines):
