@@ -109,6 +109,7 @@ class Sessions {
   // Opens a kept session, also where another tab has it if that is asked for: whether it could.
   async reopen(id, isTaken = false) {
     const { store } = this.app;
+    await store.last;   // a new session that was asked for before may leave this one
     if (store.session?.id === id) return true;
     const claim = await store.claimOf(id, isTaken), kept = claim && await store.kept(id);
     if (!kept) { claim?.free(); return false; }
