@@ -2,3 +2,4 @@
 pub mod QuietTurns
 pub mod Endings
 pub mod Pushes
+pub mod WaitingTurns

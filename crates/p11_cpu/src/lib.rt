@@ -35,6 +35,7 @@ mod trap;
 mod turn;
 mod turn_ends;
 mod turn_number;
+mod waiting;
 mod words;
 
 pub use laws::a_user_turn_is_confined;

@@ -68,6 +68,20 @@ impl TurnNumber {
         }
     }
 
+    /// How many of so many turns that follow this one come before another.
+    #[inline(always)]
+    pub fn count_before(self, other: u64, most: u32) -> u32
+        ensures before { self < other → self + result < other }
+        ensures bound { result ≤ most }
+    {
+        let left = other.saturating_sub(self.number + 1);
+        if left < u64::from(most) {
+            left as u32
+        } else {
+            most
+        }
+    }
+
     /// The number itself.
     pub fn number(self) -> u64
         ensures value { result ≡ self }

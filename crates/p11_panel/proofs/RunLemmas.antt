@@ -5,6 +5,7 @@ use Rattle.std.specs.Result.{IsOk, is_err}
 use Rattle.p11_lines.specs.declared.answer.StopReason.{StopReason}
 use Rattle.p11_lines.specs.declared.answer.StopReason.TheVariants as reasons
 use Rattle.p11_cpu.specs.Calls.QuietTurns.{FollowThere, IsBusy, TakeThere}
+use Rattle.p11_cpu.specs.Calls.WaitingTurns.{WaitThere}
 use Rattle.p11_cpu.specs.OperatorDevices.{is_idle}
 use Rattle.p11_cpu.specs.State.{State}
 use Rattle.p11_cpu.specs.Prepared.{needs_memory}
@@ -130,11 +131,15 @@ unfolding is_idle
 works_on true s busy = rw busy.working refl
 works_on false s busy = refl
 
-busy_goes_on : (asked : Bool) (n k : ℕ) (s : State) → k < n → IsBusy (after_turns k s).processor → stop_of (stops_idling asked) n k s ≡ None
+-- a run isn't over where its machine neither has halted nor stops it for idling
+runs_on : (asked : Bool) (n k : ℕ) (s : State) → k < n → (after_turns k s).processor.halted ≡ false → stops_idling asked (after_turns k s) ≡ false → stop_of (stops_idling asked) n k s ≡ None
 unfolding stop_of
-busy_goes_on asked n k s h busy =
+runs_on asked n k s h running busy =
     let other : (k == n) ≡ false = grind (arith, h) in
-    rw (not_halted k s busy.running, other, works_on asked (after_turns k s) busy) refl
+    rw (not_halted k s running, other, busy) refl
+
+busy_goes_on : (asked : Bool) (n k : ℕ) (s : State) → k < n → IsBusy (after_turns k s).processor → stop_of (stops_idling asked) n k s ≡ None
+busy_goes_on asked n k s h busy = runs_on asked n k s h busy.running (works_on asked (after_turns k s) busy)
 
 -- so many turns more take the machine there, and before none of them the run is over
 pub record Further (asked : Bool) (n : ℕ) (s : State) (k : ℕ) (z : State) : Type 0 where
@@ -180,6 +185,34 @@ pub follow_further : (asked : Bool) (n made k : ℕ) (s s' z : State) → made <
 follow_further asked n made k s s' z some h busy goes there =
     record { state = taken_there asked n made k s s' z goes there.state; goes_on = none_stops_behind asked n made k s s' z some h busy goes there }
 
+-- while the processor waits, the machine neither halts nor begins to idle
+waits_running : (i k : ℕ) (s z : State) → i ≤ k → 0 < k → WaitThere k s z → (after_turns i s).processor.halted ≡ false
+waits_running i k s z within some there = ap (λ (x : State). x.processor.halted) (there.counted i within) ∙ (there.waits some).running
+
+pub waited_running : (k : ℕ) (s z : State) → 0 < k → WaitThere k s z → z.processor.halted ≡ false
+waited_running k s z some there = ap (λ (x : State). x.processor.halted) there.state ∙ waits_running k k s z (omega arith) some there
+
+waits_busy : (asked : Bool) (i k : ℕ) (s z : State) → i < k → stops_idling asked s ≡ false → WaitThere k s z → stops_idling asked (after_turns i s) ≡ false
+waits_busy true i k s z below busy there = there.idles i below ∙ busy
+waits_busy false i k s z below busy there = refl
+
+none_stops_waiting : (asked : Bool) (n made k : ℕ) (s s' z : State) → made + k ≤ n → stops_idling asked s' ≡ false → Goes (stops_idling asked) n s made s' → WaitThere k s' z → (j : ℕ) → j < made + k → stop_of (stops_idling asked) n j s ≡ None
+none_stops_waiting asked n made k s s' z h busy goes there j below =
+    elim (cases_lt j made) [
+      | inl earlier ↦ goes.goes_on j earlier
+      | inr later ↦
+          let number : made + (j - made) ≡ j = omega (arith, later) in
+          let within : j - made < k = omega (arith, later, below) in
+          let at : after_turns (j - made) s' ≡ after_turns j s = ap (after_turns (j - made)) goes.state ∙ turns_after (j - made) made s ∙ ap (λ i. after_turns i s) number in
+          runs_on asked n j s (omega (arith, h, below))
+          (subst (λ (x : State). x.processor.halted ≡ false) at (waits_running (j - made) k s' z (omega (arith, within)) (omega (arith, within)) there))
+          (subst (λ (x : State). stops_idling asked x ≡ false) at (waits_busy asked (j - made) k s' z within busy there))
+    ]
+
+pub wait_further : (asked : Bool) (n made k : ℕ) (s s' z : State) → made + k ≤ n → stops_idling asked s' ≡ false → Goes (stops_idling asked) n s made s' → WaitThere k s' z → Further asked n s (made + k) z
+wait_further asked n made k s s' z h busy goes there =
+    record { state = taken_there asked n made k s s' z goes there.state; goes_on = none_stops_waiting asked n made k s s' z h busy goes there }
+
 -- after them the machine hasn't halted
 pub many_more : (asked : Bool) (n k : ℕ) (s z : State) → Further asked n s k z → z.processor.halted ≡ false → Goes (stops_idling asked) n s k z
 many_more asked n k s z there running =
@@ -200,7 +233,22 @@ many_that_halt asked n k s z some there halted =
     }
 
 -- no turn was made
-pub none_more : (asked : Bool) (n made k : ℕ) (s s' z : State) → k ≡ 0 → Goes (stops_idling asked) n s made s' → TakeThere k s' z → Goes (stops_idling asked) n s made z
+stays_there : (k : ℕ) (s z : State) → k ≡ 0 → z ≡ after_turns k s → z ≡ s
 unfolding after_turns
+stays_there k s z e there = there ∙ ap (λ i. after_turns i s) e
+
+pub none_more : (asked : Bool) (n made k : ℕ) (s s' z : State) → k ≡ 0 → Goes (stops_idling asked) n s made s' → z ≡ after_turns k s' → Goes (stops_idling asked) n s made z
 none_more asked n made k s s' z e goes there =
-    goes_is (stops_idling asked) n made s s' z (there.state ∙ ap (λ i. after_turns i s') e) goes
+    goes_is (stops_idling asked) n made s s' z (stays_there k s' z e there) goes
+
+-- none was made, nor was one waited through, and the machine doesn't idle
+pub record StillGoes (asked : Bool) (n : ℕ) (s : State) (made : ℕ) (z : State) : Type 0 where
+  pub goes : Goes (stops_idling asked) n s made z
+  pub busy : stops_idling asked z ≡ false
+
+pub still_goes : (asked : Bool) (n made k i : ℕ) (s s' x z : State) → k ≡ 0 → i ≡ 0 → Goes (stops_idling asked) n s made s' → x ≡ after_turns k s' → stops_idling asked x ≡ false → z ≡ after_turns i x → StillGoes asked n s made z
+still_goes asked n made k i s s' x z e f goes there busy here =
+    record {
+      goes = none_more asked n made i s x z f (none_more asked n made k s s' x e goes there) here;
+      busy = subst (λ (y : State). stops_idling asked y ≡ false) (sym (stays_there i x z f here)) busy;
+    }

@@ -39,6 +39,11 @@ pub(crate) fn run<A: Allocator>(
         if idles(machine, until_idle) {
             return (made, StopReason::Idle);
         }
+        let waited = machine.waiting_turns(turns - made);
+        if waited > 0 {
+            made += waited;
+            continue;
+        }
         match machine.try_turns(turns - made) {
             Ok(more) => {
                 made += more;
