@@ -8,6 +8,7 @@ import re
 
 from functions import functions, name_at
 
+# At most so many edits at once, so that those of one crate may use several processors.
 MOST = 40
 
 

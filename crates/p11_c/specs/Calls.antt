@@ -1,5 +1,5 @@
 -- What a call of C's does.
-use Rattle.std.specs.Prelude.{ℤ, ◌≡◌, ◌<◌, ◌≤◌, ◌⊎◌, ℕ, true, false, List, ◌++◌, length, drop}
+use Rattle.std.specs.Prelude.{ℤ, ◌≡◌, ◌*◌, ◌<◌, ◌≤◌, ◌⊎◌, ℕ, true, false, List, ◌++◌, length, drop}
 use Rattle.p11_lines.specs.declared.answer.Answer.{Answer}
 use Rattle.p11_cpu.specs.State.{State}
 use Rattle.p11_cpu.specs.Operator.{new_machine}
@@ -76,9 +76,9 @@ HandsOut NoMachine text files out list out' list' = ⊥
 HandsOut NoFile text files out list out' list' = ⊥
 HandsOut TooMany text files out list out' list' = ⊥
 
--- 1,000,000 reads gave these bytes, and each of them one at least
+-- These bytes take too many reads of at most 4,096: 999,999 of them, and one byte more.
 abbrev pub TookManyReads : List ℕ → Type 0
-TookManyReads bytes = 1000000 ≤ length bytes
+TookManyReads bytes = 4096 * 999999 < length bytes
 
 -- a session of what is asked for, and what is shown of its text is handed out with the files after it
 pub record Answers (A : Type 0) (shown : List ℕ → List ℕ) (asked : Asked) (status : Status)

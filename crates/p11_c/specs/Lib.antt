@@ -6,6 +6,7 @@ pub mod HeldCalls
 pub mod HeldRuns
 pub mod Registers
 pub mod Rows
+pub mod ScriptReads
 pub mod SeatCalls
 pub mod SeatSlots
 pub mod Seats

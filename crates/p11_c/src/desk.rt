@@ -30,21 +30,17 @@ struct Played {
 }
 
 /// Does the lines of a script over a store that has refused nothing: how they ended, and their text.
-fn run_lines<L: Ledger, M: Ledger>(
+fn run_lines<L: Ledger>(
     alloc: Global,
-    blank: Blank,
     panel: &mut Panel,
     store: &mut RowStore<L>,
     script: &[u8],
 ) -> (Status, Vec<u8>)
-    requires name { blank.name ≡ M.name }
-    requires parts { blank.parts ≡ M.parts }
-    requires some { 0 < blank.parts }
     requires none { store.old.refusals ≡ 0 }
     ensures { (answer : List ℕ) → LinesEnd Global script.now result.0 (kept_of panel.old store.old.files answer)
         (kept_of panel.new store.new.files result.1.items) }
 {
-    let mut reader = Script::<M>::new(script, blank);
+    let mut reader = Script::new(script);
     let mut writer = StdWriter {
         inner: Vec::new(alloc),
     };
@@ -73,8 +69,7 @@ fn play_lines<L: Ledger>(
     ensures fit { All Fits result.files.items }
 {
     let mut store = RowStore::<L>::new(alloc, blank, files);
-    let blank = Blank::new(1);
-    let (status, text) = run_lines::<L, Brand>(alloc, blank, panel, &mut store, script);
+    let (status, text) = run_lines(alloc, panel, &mut store, script);
     Played {
         status,
         text,

@@ -29,23 +29,19 @@ pub(crate) struct Given {
 }
 
 /// Does a whole script: the text of its answers.
-fn run_script<L: Ledger, M: Ledger>(
+fn run_script<L: Ledger>(
     alloc: Global,
-    blank: Blank,
     panel: &mut Panel,
     store: &mut RowStore<L>,
     script: &[u8],
 ) -> Result<Vec<u8>, Status>
-    requires name { blank.name ≡ M.name }
-    requires parts { blank.parts ≡ M.parts }
-    requires some { 0 < blank.parts }
     ensures ok { IfOk result (λ text. (m : ℕ) × ScriptDone (LineDoes {A = Global}) (script_lines script.now)
         (with_store panel.old (store_of store.old)) (record { bytes = Some []; writes = None })
         (with_store panel.new (store_of store.new)) (record { bytes = Some text.items; writes = None }) m) }
     ensures err { IfErr result (λ status. (status ≡ Status.NoMemory)
         ⊎ ((status ≡ Status.TooLong) × TookManyReads script.now)) }
 {
-    let mut reader = Script::<M>::new(script, blank);
+    let mut reader = Script::new(script);
     let mut writer = StdWriter {
         inner: Vec::new(alloc),
     };
@@ -76,8 +72,7 @@ fn play_files<L: Ledger>(
         ⊎ ((status ≡ Status.TooLong) × TookManyReads script.now)) }
 {
     let mut store = RowStore::<L>::new(alloc, blank, files);
-    let blank = Blank::new(1);
-    let text = run_script::<L, Brand>(alloc, blank, panel, &mut store, script)?;
+    let text = run_script(alloc, panel, &mut store, script)?;
     let files = write_row(alloc, store.files())?;
     Ok(Given { text, files })
 }

@@ -11,3 +11,4 @@ pub mod LoadLemmas
 pub mod BufferLemmas
 pub mod ScriptLemmas
 pub mod SessionLemmas
+pub mod Walks

@@ -1,7 +1,9 @@
 -- One more byte, and one more line, of a session.
-use Rattle.std.proofs.Common.{◌≡◌, ◌≤◌, ◌<◌, ◌+◌, arith, ℕ, true, false, nat_eq, List, [], ◌∷◌, ◌++◌, length, take, drop, get_or, Option, Some, refl, sym, ap, subst, ◌∙◌, append_assoc, append-nil, add-zero, take-append-drop}
+use Rattle.std.proofs.Common.{◌≡◌, ◌≤◌, ◌<◌, ◌+◌, arith, ℕ, true, false, nat_eq, List, [], ◌∷◌, ◌++◌, length, map, take, drop, get_or, Option, None, Some, refl, sym, ap, subst, ◌∙◌, append_assoc, append-nil, add-zero, take-append-drop}
 use Rattle.std.proofs.lemmas.Bool.{lt-ltb, lt-leb, eq-eqb, ne_eqb}
-use Rattle.std.proofs.lemmas.List.{length-append, length-take, take_more, take_all}
+use Rattle.std.proofs.lemmas.List.{length-append, length-take, map-append, take_more, take_all}
+use Rattle.std.proofs.lemmas.List.Elements.{All-nil, All-push}
+use Rattle.std.proofs.lemmas.List.Sums.{sum_by_push}
 use Rattle.std.proofs.lemmas.List.Concat.{flat_map-append}
 use Rattle.std.specs.Option.{option_to_list}
 use Rattle.std.specs.Io.KnownBytes.{Consumes, Keeps}
@@ -13,9 +15,10 @@ use Rattle.p11_lines.specs.AnswerText.{text_of}
 use Rattle.p11_lines.specs.Grammar.{line_from}
 use Rattle.p11_lines.specs.Writers.{WriterState, Writes, with_calls}
 use Rattle.p11_lines.specs.Written.{AppendsFront}
-use Rattle.p11_lines.proofs.Calls.{Writes-none, Writes-trans, calls_none, calls_trans, calls_last}
+use Rattle.p11_lines.proofs.Calls.{Writes-none, Writes-trans, calls_none, calls_more}
 use Rattle.p11_panel.specs.Kept.Buffer.{kept, pushed}
-use Rattle.p11_panel.specs.Readers.{ReaderState, Reads}
+use Rattle.p11_panel.specs.Readers.{ReaderState, Reads, GivesSome, gave, ended, failed}
+use Rattle.p11_panel.specs.declared.read_call.ReadCall.{ReadCall}
 use Rattle.p11_panel.specs.Kept.Pieces.{cut_at_lf}
 use Rattle.p11_panel.specs.Script.{without_cr, ended_lines, script_lines}
 use Rattle.p11_panel.specs.Session.{SessionState, has_answer, LineDoes, LinesRun, ScriptDone, ScriptCut, texts_of}
@@ -155,38 +158,55 @@ chunk_rest read bytes i = append_assoc read (take i bytes) (drop i bytes) ∙ ap
 pub chunk_all : (read bytes : List ℕ) (i : ℕ) → length bytes ≤ i → read ++ take i bytes ≡ read ++ bytes
 chunk_all read bytes i h = ap (λ (t : List ℕ). read ++ t) (take_all i bytes h)
 
+-- reads that gave bytes, and then other ones
+calls_told : (a b c : Option (List ReadCall)) (given : List ℕ) (last : List ReadCall) → b ≡ with_calls a (map gave given ++ []) → c ≡ with_calls b last → c ≡ with_calls a (map gave given ++ last)
+calls_told a b c given last first second =
+    second ∙ ap (λ (k : Option (List ReadCall)). with_calls k last) first
+    ∙ calls_more a (map gave given ++ []) last
+    ∙ ap (λ (t : List ReadCall). with_calls a (t ++ last)) (append-nil (map gave given))
+
 -- no read yet
 reads_none : (r : ReaderState) → Reads r r [] 0 []
-reads_none r = record { consumed = Consumes-nil r.left; reads = calls_none r.reads; least = omega arith; most = omega arith }
+reads_none r = record { consumed = Consumes-nil r.left; given = []; reads = calls_none r.reads; counted = refl; some = All-nil GivesSome; all = refl }
 
 -- a read that gave some bytes
-pub reads_more : (old mid new : ReaderState) (read bytes : List ℕ) (k : ℕ) → Reads old mid read k [] → Consumes mid.left new.left bytes → new.reads ≡ with_calls mid.reads (true ∷ []) → 0 < length bytes → length bytes ≤ 4096 → Reads old new (read ++ bytes) (k + 1) []
-reads_more old mid new read bytes k h consumed calls some few = record {
-  consumed = Consumes-trans old.left mid.left new.left read bytes h.consumed consumed;
-  reads = calls_trans old.reads mid.reads new.reads k 1 [] h.reads calls;
-  least = omega (arith, h.least, length-append read bytes);
-  most = omega (arith, h.most, length-append read bytes);
-}
+pub reads_more : (old mid new : ReaderState) (read buffer : List ℕ) (n k : ℕ) → Reads old mid read k [] → Consumes mid.left new.left (take n buffer) → new.reads ≡ with_calls mid.reads (record { room = length buffer; gave = Some n } ∷ []) → length buffer ≡ 4096 → n ≤ length buffer → (n ≡ 0 → ⊥) → Reads old new (read ++ take n buffer) (k + 1) []
+reads_more old mid new read buffer n k h consumed calls size within some =
+    let told : map gave h.given ++ gave n ∷ [] ≡ map gave (h.given ++ n ∷ []) ++ [] = sym (append-nil (map gave (h.given ++ n ∷ [])) ∙ map-append gave h.given (n ∷ [])) in
+    record {
+      consumed = Consumes-trans old.left mid.left new.left read (take n buffer) h.consumed consumed;
+      given = h.given ++ n ∷ [];
+      reads = calls_told old.reads mid.reads new.reads h.given (gave n ∷ []) h.reads (calls ∙ ap (λ (room : ℕ). with_calls mid.reads (record { room = room; gave = Some n } ∷ [])) size)
+          ∙ ap (λ (t : List ReadCall). with_calls old.reads t) told;
+      counted = omega (arith, h.counted, length-append h.given (n ∷ []));
+      some = All-push GivesSome h.given n h.some (omega arith, omega arith);
+      all = omega (arith, h.all, length-append read (take n buffer), length-take n buffer, sum_by_push (λ (x : ℕ). x) h.given n);
+    }
 
 -- one that failed
-pub reads_failed : (old mid new : ReaderState) (read : List ℕ) (k : ℕ) → Reads old mid read k [] → Keeps mid.left new.left → new.reads ≡ with_calls mid.reads (false ∷ []) → Reads old new read k (false ∷ [])
-reads_failed old mid new read k h kept calls = record {
+pub reads_failed : (old mid new : ReaderState) (read buffer : List ℕ) (k : ℕ) → Reads old mid read k [] → Keeps mid.left new.left → new.reads ≡ with_calls mid.reads (record { room = length buffer; gave = None } ∷ []) → length buffer ≡ 4096 → Reads old new read k (failed ∷ [])
+reads_failed old mid new read buffer k h kept calls size = record {
   consumed = Consumes-kept old.left mid.left new.left read h.consumed kept;
-  reads = calls_last old.reads mid.reads new.reads k false h.reads calls;
-  least = h.least;
-  most = h.most;
+  given = h.given;
+  reads = calls_told old.reads mid.reads new.reads h.given (failed ∷ []) h.reads (calls ∙ ap (λ (room : ℕ). with_calls mid.reads (record { room = room; gave = None } ∷ [])) size);
+  counted = h.counted;
+  some = h.some;
+  all = h.all;
 }
 
--- one that gave nothing
-pub reads_ended : (old mid new : ReaderState) (read chunk : List ℕ) (n k : ℕ) → Reads old mid read k [] → Consumes mid.left new.left (take n chunk) → new.reads ≡ with_calls mid.reads (true ∷ []) → n ≡ 0 → Reads old new read k (true ∷ [])
-reads_ended old mid new read chunk n k h consumed calls none =
-    let all : Consumes old.left new.left (read ++ take n chunk) = Consumes-trans old.left mid.left new.left read (take n chunk) h.consumed consumed in
-    let same : read ++ take n chunk ≡ read = ap (λ (j : ℕ). read ++ take j chunk) none ∙ append-nil read in
+-- the end
+pub reads_ended : (old mid new : ReaderState) (read buffer : List ℕ) (n k : ℕ) → Reads old mid read k [] → Consumes mid.left new.left (take n buffer) → new.reads ≡ with_calls mid.reads (record { room = length buffer; gave = Some n } ∷ []) → length buffer ≡ 4096 → n ≡ 0 → Reads old new read k (ended ∷ [])
+reads_ended old mid new read buffer n k h consumed calls size none =
+    let all : Consumes old.left new.left (read ++ take n buffer) = Consumes-trans old.left mid.left new.left read (take n buffer) h.consumed consumed in
+    let same : read ++ take n buffer ≡ read = ap (λ (j : ℕ). read ++ take j buffer) none ∙ append-nil read in
+    let told : new.reads ≡ with_calls mid.reads (ended ∷ []) = calls ∙ ap (λ (room : ℕ). with_calls mid.reads (record { room = room; gave = Some n } ∷ [])) size ∙ ap (λ (j : ℕ). with_calls mid.reads (gave j ∷ [])) none in
     record {
       consumed = subst (λ (t : List ℕ). Consumes old.left new.left t) same all;
-      reads = calls_last old.reads mid.reads new.reads k true h.reads calls;
-      least = h.least;
-      most = h.most;
+      given = h.given;
+      reads = calls_told old.reads mid.reads new.reads h.given (ended ∷ []) h.reads told;
+      counted = h.counted;
+      some = h.some;
+      all = h.all;
     }
 
 -- where a session stands after k reads, each of 1 to 4,096 bytes
@@ -199,14 +219,10 @@ module _ {S A : Type 0} {Does : List ℕ → S → Option (Answer A) → S → T
   pub reached_none : (r : ReaderState) (s : S) (a : WriterState) (buffer : Option (List ℕ)) → buffer ≡ Some [] → Reached Does 0 r r s a s a 0 buffer
   reached_none r s a buffer e = record { read = []; reads = reads_none r; stands = stands_none s a buffer e }
 
-  pub reached_more : (k : ℕ) (old mid new : ReaderState) (s : S) (a : WriterState) (s' : S) (b : WriterState) (n : ℕ) (buffer : Option (List ℕ)) (bytes : List ℕ) (s'' : S) (c : WriterState) (m : ℕ) (after : Option (List ℕ))
-      (h : Reached Does k old mid s a s' b n buffer) → Consumes mid.left new.left bytes → new.reads ≡ with_calls mid.reads (true ∷ []) → 0 < length bytes → length bytes ≤ 4096 → Stands Does (h.read ++ bytes) s a s'' c m after → Reached Does (k + 1) old new s a s'' c m after
-  reached_more k old mid new s a s' b n buffer bytes s'' c m after h e calls some few t =
-      record { read = h.read ++ bytes; reads = reads_more old mid new h.read bytes k h.reads e calls some few; stands = t }
-
--- how many bytes a read gave
-pub length-taken : (n : ℕ) (buffer : List ℕ) → length buffer ≡ 4096 → n ≤ length buffer → (n ≡ 0 → ⊥) → (0 < length (take n buffer)) × (length (take n buffer) ≤ 4096)
-length-taken n buffer size within some = (omega (arith, length-take n buffer), omega (arith, length-take n buffer))
+  pub reached_more : (k : ℕ) (old mid new : ReaderState) (s : S) (a : WriterState) (s' : S) (b : WriterState) (n : ℕ) (buffer : Option (List ℕ)) (chunk : List ℕ) (len : ℕ) (s'' : S) (c : WriterState) (m : ℕ) (after : Option (List ℕ))
+      (h : Reached Does k old mid s a s' b n buffer) → Consumes mid.left new.left (take len chunk) → new.reads ≡ with_calls mid.reads (record { room = length chunk; gave = Some len } ∷ []) → length chunk ≡ 4096 → len ≤ length chunk → (len ≡ 0 → ⊥) → Stands Does (h.read ++ take len chunk) s a s'' c m after → Reached Does (k + 1) old new s a s'' c m after
+  reached_more k old mid new s a s' b n buffer chunk len s'' c m after h e calls size within some t =
+      record { read = h.read ++ take len chunk; reads = reads_more old mid new h.read chunk len k h.reads e calls size within some; stands = t }
 
 pub some_room : (buffer : List ℕ) → length buffer ≡ 4096 → 0 < length buffer
 some_room buffer size = omega arith

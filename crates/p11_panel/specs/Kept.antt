@@ -2,3 +2,4 @@
 pub mod Buffer
 pub mod Pieces
 pub mod Standing
+pub mod Told

@@ -1,11 +1,11 @@
 //! A session: a script read byte by byte, its lines done, and the texts of their answers written.
-ghost use Rattle.std.specs.Prelude.{◌≡◌, ◌≤◌, ◌<◌, ◌+◌, ◌++◌, ◌∷◌, [], ◌⊎◌, ℕ, true, false, List, Option, Some, length};
+ghost use Rattle.std.specs.Prelude.{◌≡◌, ◌≤◌, ◌<◌, ◌+◌, ◌++◌, ◌∷◌, [], ◌⊎◌, ℕ, List, Option, Some, length};
 ghost use Rattle.std.specs.Prelude.{IfOk, OnErr, IsErrOf};
 ghost use Rattle.std.specs.Io.KnownBytes.{IsAtEnd};
 ghost use Rattle.p11_lines.specs.Writers.{WriterState};
 ghost use Rattle.p11_panel.specs.Kept.Buffer.{kept};
 ghost use Rattle.p11_panel.specs.Script.{without_cr, ended_lines, script_lines};
-ghost use Rattle.p11_panel.specs.Readers.{Reads};
+ghost use Rattle.p11_panel.specs.Readers.{Reads, ended, failed};
 ghost use Rattle.p11_panel.specs.Session.{SessionState, with_store, LineDoes, ScriptDone, ScriptCut};
 ghost use Rattle.p11_panel.specs.Kept.Standing.{Stands};
 
@@ -187,8 +187,8 @@ fn finish<A: Allocator + Copy, S: Store, W: Sink>(
 ///
 /// # Errors
 ///
-/// `Reading` where a read failed, and `TooLong` where 1,000,000 reads of at most 4,096 bytes found no end: the lines
-/// that LF ended in what was read are done, and all their text is written. `Writing` where a write failed or took
+/// `Reading` where a read failed, and `TooLong` where 999,999 reads of at most 4,096 bytes gave some, and one gave more: the
+/// lines that LF ended in what was read are done, and all their text is written. `Writing` where a write failed or took
 /// nothing: just the lines up to one are done, itself included. All earlier texts are whole, and of its own text a front
 /// is written, but not all. LF has ended that line, or it is the last of a script that was read to its end. A call that
 /// failed is the last one of its kind: it is never tried again.
@@ -201,18 +201,18 @@ pub fn session<A: Allocator + Copy, S: Store, R: Source, W: Sink>(
 ) -> Result<u32, SessionFault>
     // The script was read to its end, all its lines are done, and their text is written: nothing failed.
     ensures ok { IfOk result (λ m. (read : List ℕ) × (n : ℕ)
-        × Reads (R.state reader.old) (R.state reader.new) read n (true ∷ []) × (n ≤ 999999)
+        × Reads (R.state reader.old) (R.state reader.new) read n (ended ∷ []) × (n ≤ 999999)
         × IsAtEnd (R.state reader.new).left
         × ScriptDone (LineDoes {A = A}) (script_lines read)
         (with_store panel.old (S.state store.old)) (W.state writer.old) (with_store panel.new (S.state store.new))
         (W.state writer.new) m) }
     // The last read failed, and no other. The lines that LF ended in what was read are done, and their text is written.
     ensures reading { IsErrOf result SessionFault.Reading → (read : List ℕ) × (m : ℕ) × (n : ℕ)
-        × Reads (R.state reader.old) (R.state reader.new) read n (false ∷ []) × (n ≤ 999999)
+        × Reads (R.state reader.old) (R.state reader.new) read n (failed ∷ []) × (n ≤ 999999)
         × ScriptDone (LineDoes {A = A}) (ended_lines read)
         (with_store panel.old (S.state store.old)) (W.state writer.old) (with_store panel.new (S.state store.new))
         (W.state writer.new) m }
-    // The same, of just 1,000,000 reads, none of which failed.
+    // The same, of just 1,000,000 reads, each of which gave bytes.
     ensures long { IsErrOf result SessionFault.TooLong → (read : List ℕ) × (m : ℕ) × (n : ℕ)
         × Reads (R.state reader.old) (R.state reader.new) read n [] × (n ≡ 1000000)
         × ScriptDone (LineDoes {A = A}) (ended_lines read)
@@ -225,7 +225,7 @@ pub fn session<A: Allocator + Copy, S: Store, R: Source, W: Sink>(
         × ScriptCut (LineDoes {A = A}) (ended_lines read)
         (with_store panel.old (S.state store.old)) (W.state writer.old) (with_store panel.new (S.state store.new))
         (W.state writer.new))
-        ⊎ (Reads (R.state reader.old) (R.state reader.new) read n (true ∷ []) × (n ≤ 999999)
+        ⊎ (Reads (R.state reader.old) (R.state reader.new) read n (ended ∷ []) × (n ≤ 999999)
         × IsAtEnd (R.state reader.new).left
         × ScriptCut (LineDoes {A = A}) (script_lines read)
         (with_store panel.old (S.state store.old)) (W.state writer.old) (with_store panel.new (S.state store.new))

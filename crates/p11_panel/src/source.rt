@@ -1,14 +1,20 @@
 // What the bytes of a script are read from.
-ghost use Rattle.std.specs.Prelude.{◌≡◌, [], ◌∷◌, None, is_ok};
+ghost use Rattle.std.specs.Prelude.{◌≡◌, [], ◌∷◌, ◌++◌, None, List};
+ghost use Rattle.std.specs.Borrow.{ftrue};
 ghost use Rattle.std.specs.Io.{ReadsAtMost};
 ghost use Rattle.std.specs.Io.KnownBytes.{ReadConsumes};
 ghost use Rattle.p11_lines.specs.Writers.{with_calls};
+ghost use Rattle.p11_panel.specs.Calls.Reads.{read_into};
+ghost use Rattle.p11_panel.specs.declared.read_call.ReadCall.{ReadCall};
+ghost use Rattle.p11_panel.specs.Kept.Told.{reads_code};
 
+use crate::read_call::ReadCall;
 use std::io;
 use std::io::Read;
+use std::marker::Model;
 
-/// A reader of which contracts know the bytes that are left, as they do of std's readers, and also how each of its
-/// reads ended; each where the implementation tells it.
+/// A reader of which contracts know the bytes that are left, as they do of std's readers, and also how many bytes each
+/// of its reads gave; each where the implementation tells it.
 pub trait Source {
     ghost use Rattle.p11_panel.specs.Readers.{ReaderState};
 
@@ -18,7 +24,33 @@ pub trait Source {
     fn read(&mut self, bytes: &mut [u8]) -> io::Result<usize>
         ensures bound { ReadsAtMost result bytes.new }
         ensures bytes { ReadConsumes (state self.old).left (state self.new).left result bytes.new }
-        ensures calls { (state self.new).reads ≡ with_calls (state self.old).reads (is_ok result ∷ []) };
+        ensures calls { (state self.new).reads ≡ with_calls (state self.old).reads (read_into bytes.new result ∷ []) };
+}
+
+/// The reads of a source, the first one first. It takes no bytes, and its methods do nothing at run time.
+#[derive(Drop)]
+pub struct ToldReads {
+    pub ghost made: { List ReadCall } by { reads_code },
+}
+
+impl Model for ToldReads {
+    ghost also_owns = { λ _. ftrue };
+}
+
+impl ToldReads {
+    /// No read yet.
+    pub fn new() -> ToldReads
+        ensures { result.made ≡ [] }
+    {
+        ToldReads {}
+    }
+
+    /// These reads, and one more.
+    pub fn then(&self, _read: &ReadCall) -> ToldReads
+        ensures { result.made ≡ self.now.made ++ _read.now ∷ [] }
+    {
+        ToldReads {}
+    }
 }
 
 /// A reader of std's as a source, which doesn't tell its reads.

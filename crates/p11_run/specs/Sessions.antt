@@ -1,8 +1,8 @@
 -- The program's session, over a reader of its script and a writer of its output, as it leaves them: nothing is read or written besides.
-use Rattle.std.specs.Prelude.{◌≡◌, ◌⊎◌, ℕ, ◌≤◌, true, false, List, [], ◌∷◌, Result, IfErr}
+use Rattle.std.specs.Prelude.{◌≡◌, ◌⊎◌, ℕ, ◌≤◌, List, [], ◌∷◌, Result, IfErr}
 use Rattle.std.specs.Io.KnownBytes.{IsAtEnd}
 use Rattle.p11_lines.specs.Writers.{WriterState}
-use Rattle.p11_panel.specs.Readers.{ReaderState, Reads}
+use Rattle.p11_panel.specs.Readers.{ReaderState, Reads, ended, failed}
 use Rattle.p11_panel.specs.Script.{ended_lines, script_lines}
 use Rattle.p11_panel.specs.Session.{SessionState, LineDoes, ScriptDone, ScriptCut}
 use Rattle.p11_panel.specs.declared.script.SessionFault.{SessionFault}
@@ -13,17 +13,17 @@ use Rattle.p11_run.specs.declared.ending.Cause.TheVariants as causes
 abbrev pub PlaysAll : Type 0 → ReaderState → ReaderState → SessionState → WriterState → SessionState → WriterState → Type 0
 PlaysAll A r r' s w s' w' =
     (read : List ℕ) × (n : ℕ) × (m : ℕ)
-    × Reads r r' read n (true ∷ []) × (n ≤ 999999) × IsAtEnd r'.left
+    × Reads r r' read n (ended ∷ []) × (n ≤ 999999) × IsAtEnd r'.left
     × ScriptDone (LineDoes {A = A}) (script_lines read) s w s' w' m
 
 -- The last read failed, and no other call. The lines that LF ended in what was read are done, and their text is written.
 abbrev pub PlaysToFault : Type 0 → ReaderState → ReaderState → SessionState → WriterState → SessionState → WriterState → Type 0
 PlaysToFault A r r' s w s' w' =
     (read : List ℕ) × (m : ℕ) × (n : ℕ)
-    × Reads r r' read n (false ∷ []) × (n ≤ 999999)
+    × Reads r r' read n (failed ∷ []) × (n ≤ 999999)
     × ScriptDone (LineDoes {A = A}) (ended_lines read) s w s' w' m
 
--- The same, of just 1,000,000 reads, none of which failed.
+-- The same, of just 1,000,000 reads, each of which gave bytes.
 abbrev pub PlaysToLimit : Type 0 → ReaderState → ReaderState → SessionState → WriterState → SessionState → WriterState → Type 0
 PlaysToLimit A r r' s w s' w' =
     (read : List ℕ) × (m : ℕ) × (n : ℕ)
@@ -36,7 +36,7 @@ abbrev pub PlaysToBreak : Type 0 → ReaderState → ReaderState → SessionStat
 PlaysToBreak A r r' s w s' w' =
     (read : List ℕ) × (n : ℕ)
     × ((Reads r r' read n [] × (n ≤ 1000000) × ScriptCut (LineDoes {A = A}) (ended_lines read) s w s' w')
-    ⊎ (Reads r r' read n (true ∷ []) × (n ≤ 999999) × IsAtEnd r'.left
+    ⊎ (Reads r r' read n (ended ∷ []) × (n ≤ 999999) × IsAtEnd r'.left
     × ScriptCut (LineDoes {A = A}) (script_lines read) s w s' w'))
 
 -- a session ends well, or by one of these three faults

@@ -3,7 +3,7 @@ ghost use Rattle.std.specs.Prelude.{◌≡◌, [], Some};
 ghost use Rattle.p11_lines.specs.Calls.Writing.{took_some};
 
 use p11_files::ToldEnds;
-use p11_panel::{Sink, Source};
+use p11_panel::{ReadCall, Sink, Source, ToldReads};
 use std::io;
 use std::io::{Read, Write};
 
@@ -11,7 +11,7 @@ use std::io::{Read, Write};
 #[derive(Drop)]
 pub(crate) struct ToldReader<R> {
     inner: R,
-    reads: ToldEnds,
+    reads: ToldReads,
 }
 
 /// A writer of std's as a sink, which tells its writes.
@@ -27,7 +27,7 @@ impl<R: Read> ToldReader<R> {
         ensures inner { R.remaining result.inner ≡ R.remaining inner }
         ensures reads { result.reads.made ≡ [] }
     {
-        let reads = ToldEnds::new();
+        let reads = ToldReads::new();
         ToldReader { inner, reads }
     }
 }
@@ -58,7 +58,7 @@ impl<R: Read> Source for ToldReader<R> {
 
     fn read(&mut self, bytes: &mut [u8]) -> io::Result<usize> {
         let given = self.inner.read(bytes);
-        self.reads = self.reads.then(&given.is_ok());
+        self.reads = self.reads.then(&ReadCall::into_buffer(bytes, &given));
         given
     }
 }
