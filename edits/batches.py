@@ -6,10 +6,8 @@ no other edit's function leads to it by calls.
 """
 import re
 
+from edit import Bad
 from functions import functions, name_at
-
-# At most so many edits at once, so that those of one crate may use several processors.
-MOST = 40
 
 
 def last(name):
@@ -59,12 +57,24 @@ class Reach:
                 and not self.besides & other.led_to and not other.besides & self.led_to)
 
 
+def made_together(edits, sources):
+    """The crate's texts with these edits, or None: one makes a text that another one changes."""
+    made = dict(sources)
+    try:
+        for edit in edits:
+            made[edit.file] = edit.change(made[edit.file])
+    except Bad:
+        return None
+    return made
+
+
 def batches(edits, sources):
     """The edits in lists, each to be tried together; the sources are the crate's, by their paths in it."""
     calls, found = Calls(sources), []
     reaches = {edit: Reach(edit, sources, calls) for edit in edits}
     for edit in edits:
-        place = next((it for it in found if len(it) < MOST and all(reaches[edit].stands_beside(reaches[other]) for other in it)), None)
+        place = next((it for it in found if all(reaches[edit].stands_beside(reaches[other]) for other in it)
+                      and made_together([*it, edit], sources)), None)
         if place is None:
             found.append(place := [])
         place.append(edit)

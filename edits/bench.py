@@ -5,7 +5,7 @@ import subprocess
 import tempfile
 import threading
 
-from edit import Bad
+from batches import made_together
 from functions import place_of
 from proved import words_of_check
 from verdict import REFUSED, judge, judge_start, written
@@ -57,9 +57,7 @@ class Bench:
 
     def try_together(self, edits):
         """What came of each of these edits, made together: the verdict, why, and its part of the seconds of processor."""
-        sources = dict(self.sources)
-        for edit in edits:
-            sources[edit.file] = edit.change(sources[edit.file])
+        sources = made_together(edits, self.sources)
         self.write(sources)
         found, seconds = self.start([edit for edit in edits if not edit.caller])
         more, checking = self.check([edit for edit in edits if edit not in found], sources)
@@ -91,11 +89,7 @@ class Bench:
 
     def try_batch(self, edits):
         """What came of each of these edits. One that isn't refused together with others is tried alone."""
-        try:
-            found = self.try_together(edits)
-        except Bad:
-            # (one makes a text that another one changes)
-            found = [(None, None, 0.0)] * len(edits)
+        found = self.try_together(edits)
         if len(edits) == 1:
             return found
         for at, edit in enumerate(edits):
