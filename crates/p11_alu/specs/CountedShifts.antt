@@ -35,7 +35,7 @@ step_left h s = one_on h s (left_once h s.value) (sign_of h s.value)
 abbrev pub step_right : ℕ → Shifting → Shifting
 step_right h s = one_on h s (right_once h s.value) (s.value % 2 == 1)
 
--- the same step n times in a row
+-- a step n times in a row
 abbrev pub times : (Shifting → Shifting) → ℕ → Shifting → Shifting
 times step zero s = s
 times step (suc n) s = step (times step n s)

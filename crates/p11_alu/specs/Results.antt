@@ -24,7 +24,7 @@ sum_of size a b = result_of size (sval size a +ℤ sval size b) (pos (val size a
 unfoldable pub difference_of : Size → ℕ → ℕ → ℕ × Codes
 difference_of size a b = result_of size (sval size a -ℤ sval size b) (pos (val size a) -ℤ pos (val size b))
 
--- The same result, with C as it was before the instruction (INC, DEC).
+-- A result with C as it was before the instruction (INC, DEC).
 abbrev pub with_carry : Bool → ℕ × Codes → ℕ × Codes
 with_carry c (r, codes) = (r, record codes { c = c })
 

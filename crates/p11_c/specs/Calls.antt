@@ -36,7 +36,7 @@ pub record PlaysOver (A : Type 0) (start : State) (given : List NamedBytes) (scr
   pub text_is : text ≡ texts_of answers
   pub files_are : IsRow files store.files
 
--- the same on a new machine, over the files of a row
+-- the whole session of a script on a new machine, over the files of a row
 pub record SessionGives (A : Type 0) (asked : Asked) (text files : List ℕ) : Type 0 where
   pub sized : is_size asked.kwords asked.lines ≡ true
   pub given : List NamedBytes

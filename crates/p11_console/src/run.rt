@@ -2,6 +2,8 @@
 ghost use Rattle.std.specs.Prelude.{◌≡◌, position, if◌then◌else◌};
 ghost use Rattle.p11_console.specs.Runs.{run_of, talk_of, is_escape, is_interrupt, has_escape, has_interrupt, course_of, in_talk, without_keys, where_none_is_taken, pressed_on};
 
+use p11_panel::MOST_TURNS;
+
 /// A run: the turns that are left, those that the record lacks and all that were made, and how it goes on.
 #[derive(Clone, Copy)]
 pub struct Run {
@@ -49,9 +51,6 @@ const ESCAPE: u8 = 5;
 
 /// Ctrl-C.
 const INTERRUPT: u8 = 3;
-
-/// The most turns of a line of the record, and of a run with a count.
-pub(crate) const MOST_TURNS: u32 = 100_000_000;
 
 /// So many slices in a row in which the machine takes none of the keys that wait: a Ctrl-E behind them ends the run.
 const PATIENCE: u32 = 200;

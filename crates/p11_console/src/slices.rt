@@ -9,11 +9,11 @@ use crate::buffer::Buffer;
 use crate::lines::{line_end, without_return};
 use crate::note::Note;
 use crate::record::record_run;
-use crate::run::{MOST_TURNS, Run, escape_in, interrupt_in};
+use crate::run::{Run, escape_in, interrupt_in};
 use crate::stop::{Cause, stop_of};
 use crate::way::Way;
 use p11_lines::{Answer, NoMemory, StopReason};
-use p11_panel::{Command, Panel};
+use p11_panel::{Command, MOST_TURNS, Panel};
 use std::alloc::Allocator;
 
 /// Turns of a slice at most where keys wait: the 64 that the machine holds take 64 turns each.

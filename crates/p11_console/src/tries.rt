@@ -12,14 +12,14 @@ use crate::note::{Note, Subject, Topic};
 use crate::own::{Own, name_of, own_of, verb_and_rest};
 use crate::reasons::{note_for, note_of};
 use crate::record::{record_line, record_unmount, recorded};
-use crate::run::{MOST_TURNS, run_of, talk_of};
+use crate::run::{run_of, talk_of};
 use crate::settings::Trying;
 use crate::slices::run_command;
 use crate::tapes::note_of_tape;
 use crate::text::Text;
 use crate::way::Way;
 use p11_lines::{Answer, Bytes, Fault, Line, NoMemory, parse_line};
-use p11_panel::{Command, Panel};
+use p11_panel::{Command, MOST_TURNS, Panel};
 use p11_phrases::{Meant, parted, word_meant};
 use std::alloc::Allocator;
 

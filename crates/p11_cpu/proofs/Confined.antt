@@ -11,7 +11,7 @@ use Rattle.p11_kt11.specs.declared.reference.Kind.{Kind}
 use Rattle.p11_psw.specs.Sources.{status_from_return}
 use Rattle.p11_psw.specs.declared.mode.Mode.TheVariants.{User}
 use Rattle.p11_psw.specs.declared.psw.Psw.{Psw}
-use Rattle.p11_rk11.specs.Memory.{has_word, word_at}
+use Rattle.p11_memory.specs.Memory.{has_word, word_at}
 use Rattle.p11_unibus.specs.Registers as devices
 use Rattle.p11_unibus.specs.State.{BusState}
 use Rattle.p11_cpu.specs.declared.trap.Trap.{Trap}

@@ -15,7 +15,7 @@ use Rattle.p11_kt11.specs.declared.reference.Kind.TheVariants.{Read, Write}
 use Rattle.p11_psw.specs.declared.mode.Mode.{Mode}
 use Rattle.p11_psw.specs.declared.mode.Mode.TheVariants.{User}
 use Rattle.p11_psw.specs.declared.vector.Vector.TheVariants.{BusError}
-use Rattle.p11_rk11.specs.Memory.{Words, has_word, stored, word_at}
+use Rattle.p11_memory.specs.Memory.{Words, has_word, stored, word_at}
 use Rattle.p11_unibus.specs.Bus as bus
 use Rattle.p11_unibus.specs.Bus.{answered_or, replaced_or, shown_or, transmitter_high_byte}
 use Rattle.p11_unibus.specs.Calls.There.{changed_there, read_there}

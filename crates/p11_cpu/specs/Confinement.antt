@@ -26,7 +26,7 @@ IsReached m pa = (va : ℕ) × (va < 0o200000) × IsOkAnd (place User va Write m
 unfoldable pub acted_next : State → HardwareState
 acted_next s = devices_acted (s.turns + 1) (marks_cleared (hardware_of s))
 
--- the same, and the request that is granted then
+-- the hardware after these two steps, and the request that is granted then
 unfoldable pub granted_next : State → HardwareState × Option Vector
 granted_next s = request_granted (acted_next s)
 

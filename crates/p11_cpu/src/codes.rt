@@ -54,7 +54,7 @@ impl<A: Allocator> Hardware<A> {
         stored
     }
 
-    /// The same where C is as it was, so that it need not be written.
+    /// Sets N and Z by a result of a size and V as it is handed in, where C is as it was, and gives what is stored.
     #[tactic(auto, unfolding(crate::specs::Registers::codes_of, crate::specs::Registers::set_codes_of))]
     #[inline(always)]
     pub fn set_nzv_for(&mut self, size: Size, done: (u16, Codes)) -> u16

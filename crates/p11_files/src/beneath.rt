@@ -38,7 +38,7 @@ pub(crate) fn path_below(rt: &HostRuntime, folder: &str, path: &str) -> Result<S
     checked(rt, folder, whole.as_str())
 }
 
-/// The same of a folder, which may be that folder too; with a slash behind it.
+/// The path without links of the folder to which a path leads, with a slash behind it, where it is that folder or below it.
 pub(crate) fn folder_below(rt: &HostRuntime, folder: &str, path: &str) -> Result<String, FileFault>
     ensures { IfOk result (λ whole. (behind : List ℕ) × (string_bytes whole ≡ folder.now ++ behind)) }
 {

@@ -82,7 +82,7 @@ pub fn fill<N: NewFile>(new: &mut N, bytes: &[u8]) -> io::Result<()>
     }
 }
 
-/// The same, but a file that fails isn't taken away.
+/// Gives a new file its bytes, and then the place of the other one. A file that fails isn't taken away.
 fn write_and_name<N: NewFile>(new: &mut N, bytes: &[u8]) -> io::Result<()>
     requires { (N.state new.old).is_named ≡ false }
     ensures bytes { OnOk result (Appends (N.state new.old).taken (N.state new.new).taken bytes.now) }

@@ -173,7 +173,7 @@ fn checked_place(rt: &HostRuntime, name: &str) -> Result<Place, FileFault> {
     Ok(place)
 }
 
-/// The same below a folder alone.
+/// Where a name below a folder leads, if a new file may take that place and it is below the folder.
 fn place_below(rt: &HostRuntime, folder: &str, name: &str) -> Result<Place, FileFault> {
     let named = path_from(rt, folder, name)?;
     let leads = place_of(rt, named.as_str())?;

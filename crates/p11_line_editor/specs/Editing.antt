@@ -23,7 +23,7 @@ empty_line = record { text = []; cursor = 0 }
 abbrev pub edited : Line × Bool → Editor → Step
 edited change editor = (record editor { line = change.0 }, told change.1)
 
--- the same of a character
+-- a character in the line, if there was room for it
 abbrev pub insertion : ℕ → Line × Bool → Editor → Step
 insertion byte change editor =
     (record editor { line = change.0 }, told_of byte (nat_eq editor.line.cursor (length editor.line.text)) change.1)
@@ -69,7 +69,7 @@ shown text back editor =
     then (record editor { line = record { text = text; cursor = length text }; back = back; draft = draft_of editor }, Changed)
     else (editor, Bell)
 
--- the same of a text, if there is one
+-- a text of the history stands in the line, if there is one
 abbrev pub recalled : Option (List ℕ) → ℕ → Editor → Step
 recalled None back editor = (editor, Bell)
 recalled (Some text) back editor = shown text back editor

@@ -56,7 +56,7 @@ impl Stock {
         self.bytes = kept;
     }
 
-    /// The same with one byte more, where there is room.
+    /// What it has with one byte more, where there is room.
     pub(crate) fn with(&self, byte: u8) -> Option<Stock>
         ensures { MatchOption result (4096 < length (self.now ++ byte ∷ [])) (λ more. more ≡ self.now ++ byte ∷ []) }
     {

@@ -5,7 +5,7 @@ use Rattle.std.proofs.lemmas.List.{take_more}
 use Rattle.p11_lines.specs.declared.answer.Answer.{Answer}
 use Rattle.p11_rk11.specs.Acts.{after_sector, after_sector_on, disk_after_transfer, disk_after_turn, is_refused, stores_of}
 use Rattle.p11_rk11.specs.Drives.{MountedDrive}
-use Rattle.p11_rk11.specs.Memory.{Words, has_word, word_at}
+use Rattle.p11_memory.specs.Memory.{Words, has_word, word_at}
 use Rattle.p11_words.specs.DueTurns.{is_due}
 use Rattle.p11_rk11.specs.State.{selected}
 use Rattle.p11_rk11.specs.declared.registers.Registers.{Registers}

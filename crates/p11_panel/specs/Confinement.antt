@@ -3,7 +3,7 @@ use Rattle.std.specs.Prelude.{◌≡◌, ◌↔◌, ℕ, zero, suc, ◌+◌, ◌
 use Rattle.p11_lines.specs.declared.answer.Answer.{Answer}
 use Rattle.p11_lines.specs.declared.answer.Answer.TheVariants as answers
 use Rattle.p11_rk11.specs.Acts.{is_refused, stores_of}
-use Rattle.p11_rk11.specs.Memory.{has_word, word_at}
+use Rattle.p11_memory.specs.Memory.{has_word, word_at}
 use Rattle.p11_rk11.specs.State.{selected}
 use Rattle.p11_unibus.specs.Written.{is_listed}
 use Rattle.p11_cpu.specs.Confinement.{IsConfining, IsReached, after_devices, begins_service}

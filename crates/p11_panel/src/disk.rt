@@ -8,11 +8,9 @@ ghost use Rattle.p11_panel.specs.Disks.{mount_fault};
 use crate::command::Command;
 use crate::panel::Panel;
 use p11_lines::{Answer, Bytes, Fault, Words};
+use p11_overlay::IMAGE_BYTES;
 use p11_rk11::DRIVES;
 use std::alloc::Allocator;
-
-/// A pack's sectors, 4,872 of 512 bytes.
-const IMAGE_BYTES: usize = 2_494_464;
 
 impl<A: Allocator + Copy> Panel<A> {
     /// Why MOUNT is refused, if it is.

@@ -37,5 +37,6 @@ pub use p11_unibus::{BusDevices, DiskRegisters, DriveShown};
 pub use panel::Panel;
 pub use playing::play;
 pub use read_call::ReadCall;
+pub use refusal::MOST_TURNS;
 pub use script::{SessionFault, session};
 pub use source::{Source, StdReader, ToldReads};

@@ -12,7 +12,8 @@ const MOST_EXAMINED: u32 = 512;
 
 const MOST_DEPOSITED: usize = 64;
 
-const MOST_TURNS: u32 = 100_000_000;
+/// The most turns of a run.
+pub const MOST_TURNS: u32 = 100_000_000;
 
 const LAST_TURN: u64 = 0x4000_0000_0000_0000;
 

@@ -212,7 +212,7 @@ pub fn session<A: Allocator + Copy, S: Store, R: Source, W: Sink>(
         × ScriptDone (LineDoes {A = A}) (ended_lines read)
         (with_store panel.old (S.state store.old)) (W.state writer.old) (with_store panel.new (S.state store.new))
         (W.state writer.new) m }
-    // The same, of just 1,000,000 reads, each of which gave bytes.
+    // Just 1,000,000 reads gave bytes. The lines that LF ended in what was read are done, and their text is written.
     ensures long { IsErrOf result SessionFault.TooLong → (read : List ℕ) × (m : ℕ) × (n : ℕ)
         × Reads (R.state reader.old) (R.state reader.new) read n [] × (n ≡ 1000000)
         × ScriptDone (LineDoes {A = A}) (ended_lines read)

@@ -37,7 +37,7 @@ script (line ∷ lines) = (line_text line ++ 10 ∷ []) ++ script lines
 abbrev pub behind_words : ℕ → ℕ → Place
 behind_words address count = if nat_le (address + 2 * count) 0o777777 then Word (address + 2 * count) else Nowhere
 
--- the same after a line
+-- what an empty line shows after a line
 abbrev pub place_behind : {A : Type 0} → Place → Option (Line A) → Place
 place_behind place (Some (Examine address count)) = behind_words address count
 place_behind place _ = place

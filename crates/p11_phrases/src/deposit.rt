@@ -103,7 +103,7 @@ fn filled<A: Allocator + Copy>(
     }
 }
 
-/// The same, if it is one word.
+/// This word is put into each place of a range, if it is one.
 fn filled_with<A: Allocator + Copy>(
     alloc: A,
     place: Place,

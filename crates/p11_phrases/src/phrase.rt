@@ -174,7 +174,7 @@ fn full(place: usize) -> &'static [u8]
     }
 }
 
-/// The same line with its first word in full.
+/// A line with its first word in full.
 #[tactic(auto, unfolding(crate::specs::Phrases::in_full))]
 pub(crate) fn in_full<A: Allocator + Copy>(
     alloc: A,

@@ -6,7 +6,7 @@ use Rattle.p11_lines.specs.declared.answer.Answer.{Answer}
 use Rattle.p11_lines.specs.declared.answer.Answer.TheVariants as answers
 use Rattle.p11_lines.specs.declared.fault.Fault.{Fault}
 use Rattle.p11_kt11.specs.Registers as management
-use Rattle.p11_rk11.specs.Memory.{has_word}
+use Rattle.p11_memory.specs.Memory.{has_word}
 use Rattle.p11_rk11.specs.State.{drive_of, drive_count, contents_of, is_busy}
 use Rattle.p11_tape.specs.Reading.{Meaning, reading}
 use Rattle.p11_tape.specs.declared.fault.TapeFault.{TapeFault}

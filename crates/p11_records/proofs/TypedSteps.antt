@@ -17,7 +17,7 @@ use Rattle.p11_psw.specs.declared.vector.Vector.TheVariants.{BusError, MemoryMan
 use Rattle.p11_psw.specs.declared.zones.Zone.{Zone}
 use Rattle.p11_psw.specs.declared.zones.Zone.TheVariants.{Clear, Yellow, Red}
 use Rattle.p11_alu.specs.declared.codes.Codes.{Codes}
-use Rattle.p11_rk11.specs.Memory.{has_word, word_at}
+use Rattle.p11_memory.specs.Memory.{has_word, word_at}
 use Rattle.p11_unibus.specs.Bus as bus
 use Rattle.p11_unibus.specs.Bus.{register_after_read, register_changed, register_word, replaced_or, shown_or, answered_or, transmitter_high_byte}
 use Rattle.p11_unibus.specs.Bytes.{even, byte_at, with_byte}

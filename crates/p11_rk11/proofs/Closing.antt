@@ -6,7 +6,7 @@ use Rattle.p11_rk11.specs.Acts.{after_seek_on, after_sector_on, disk_after_seek}
 use Rattle.p11_rk11.specs.Drives.{MountedDrive}
 use Rattle.p11_rk11.specs.Kept.View.{MountedState}
 use Rattle.p11_rk11.specs.Laws.Registers.{TransferHasPlace}
-use Rattle.p11_rk11.specs.Memory.{Words}
+use Rattle.p11_memory.specs.Memory.{Words}
 use Rattle.p11_rk11.specs.Calls.Places.{is_on_disk}
 use Rattle.p11_words.specs.DueTurns.{is_due}
 use Rattle.p11_rk11.specs.Starts.{after_start_on}

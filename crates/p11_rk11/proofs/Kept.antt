@@ -12,7 +12,7 @@ use Rattle.p11_rk11.specs.declared.registers.Registers.{Registers}
 use Rattle.p11_rk11.specs.Acts.{sector_words, stores_of, is_refused, memory_after_sector, after_sector, after_sector_on, disk_after_transfer, disk_after_turn}
 use Rattle.p11_rk11.specs.Drives.{MountedDrive}
 use Rattle.p11_rk11.specs.Functions.{uses_memory, is_read}
-use Rattle.p11_rk11.specs.Memory.{Words, has_word, word_at, stored, all_stored, all_held}
+use Rattle.p11_memory.specs.Memory.{Words, has_word, word_at, stored, all_stored, all_held}
 use Rattle.p11_rk11.specs.Registers.{addresses, words_moved}
 use Rattle.p11_words.specs.DueTurns.{is_due}
 use Rattle.p11_rk11.specs.State.{Rk11State, selected}

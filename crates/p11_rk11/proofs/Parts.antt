@@ -8,7 +8,7 @@ use Rattle.std.proofs.Math.Seq.{map-set_same}
 use Rattle.std.proofs.Math.ListN.{get_or-map, length-map}
 use Rattle.p11_rk11.specs.declared.registers.Registers.{Registers}
 use Rattle.p11_rk11.specs.Calls.Parts.{disk_and_memory_with}
-use Rattle.p11_rk11.specs.Memory.{Words}
+use Rattle.p11_memory.specs.Memory.{Words}
 use Rattle.p11_rk11.specs.Place.{sector_number}
 use Rattle.p11_rk11.specs.Functions.{is_write}
 use Rattle.p11_rk11.proofs.Words.{accepted}

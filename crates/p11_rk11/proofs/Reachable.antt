@@ -14,7 +14,7 @@ use Rattle.p11_rk11.specs.Acts.{disk_after_turn, disk_after_transfer, disk_after
 use Rattle.p11_rk11.specs.Drives.{MountedDrive}
 use Rattle.p11_rk11.specs.Functions.{uses_place, function_number}
 use Rattle.p11_rk11.specs.Laws.Registers.{TransferHasPlace}
-use Rattle.p11_rk11.specs.Memory.{Words}
+use Rattle.p11_memory.specs.Memory.{Words}
 use Rattle.p11_rk11.specs.Place.{Place, next_place}
 use Rattle.p11_rk11.specs.Calls.Places.{is_on_disk}
 use Rattle.p11_rk11.specs.Registers.{is_ready, ended, failed, requested, cleared_registers, with_enable, with_control, registers_after_sector, counters_advanced, words_left}

@@ -8,7 +8,7 @@ use Rattle.std.proofs.lemmas.List.{append_assoc, drop-drop, drop_more, drop-repl
 use Rattle.std.proofs.lemmas.List.FromFn.{get_or-map-range_with_len, length-map-range_with_len}
 use borrow.Rule.Slice.PartMut.{put_mid}
 use Rattle.p11_rk11.specs.Address.{word_address}
-use Rattle.p11_rk11.specs.Memory.{Words, has_word, word_at, stored, all_held, all_stored}
+use Rattle.p11_memory.specs.Memory.{Words, has_word, word_at, stored, all_held, all_stored}
 use Rattle.p11_rk11.specs.Sector.{sector_from, words_from}
 use Rattle.p11_rk11.proofs.Words.{held_at, not_held}
 

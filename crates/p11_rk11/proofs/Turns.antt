@@ -8,7 +8,7 @@ use Rattle.std.proofs.Math.ListN.{get_or-map}
 use Rattle.p11_rk11.specs.declared.registers.Registers.{Registers}
 use Rattle.p11_rk11.specs.Acts.{disk_after_turn, disk_after_transfer, disk_after_seek, disk_after_seeks, after_seek_on, after_sector_on, after_sector, drive_after_seek, registers_after_seek, differs, is_refused}
 use Rattle.p11_rk11.specs.Drives.{MountedDrive}
-use Rattle.p11_rk11.specs.Memory.{Words}
+use Rattle.p11_memory.specs.Memory.{Words}
 use Rattle.p11_rk11.specs.declared.errors.Failure.TheVariants.{Overrun}
 use Rattle.p11_rk11.specs.Registers.{counters_advanced, ended, failed, requested, registers_after_sector, words_left}
 use Rattle.p11_words.specs.DueTurns.{is_due}

@@ -7,7 +7,7 @@ use Rattle.std.proofs.lemmas.List.{append_assoc, ext_get_or, length-set, take_at
 use Rattle.std.proofs.Math.Seq.{set-append_seam}
 use Rattle.std.proofs.lemmas.List.FromFn.{get_or-map-range_with_len, length-map-range_with_len, map-range_with_len_more}
 use Rattle.byteorder.specs.Endian.{little_number, IsRead}
-use Rattle.p11_rk11.specs.Memory.{Words, has_word, word_at, stored, all_stored, all_held}
+use Rattle.p11_memory.specs.Memory.{Words, has_word, word_at, stored, all_stored, all_held}
 use Rattle.p11_rk11.specs.Sector.{words_of_sector, words_from, sector_from}
 
 -- 256 words that were read are the sector's words

@@ -12,7 +12,7 @@ use Rattle.p11_rk11.specs.declared.mounted.PendingSeek.{PendingSeek}
 use Rattle.p11_rk11.specs.declared.registers.Registers.{Registers}
 use Rattle.p11_rk11.specs.Drives.{MountedDrive}
 use Rattle.p11_rk11.specs.Functions.{uses_memory, is_read}
-use Rattle.p11_rk11.specs.Memory.{Words, all_held, all_stored}
+use Rattle.p11_memory.specs.Memory.{Words, all_held, all_stored}
 use Rattle.p11_rk11.specs.Place.{sector_number}
 use Rattle.p11_rk11.specs.Registers.{addresses, ended, failed, requested, registers_after_sector, words_moved}
 use Rattle.p11_rk11.specs.Sector.{words_of_sector, bytes_of_words, words_from, sector_from}

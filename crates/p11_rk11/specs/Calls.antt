@@ -4,4 +4,3 @@ pub mod Due
 pub mod Heads
 pub mod Parts
 pub mod Places
-pub mod Runs

@@ -4,7 +4,6 @@ pub mod Address
 pub mod Drives
 pub mod Errors
 pub mod Functions
-pub mod Memory
 pub mod Place
 pub mod Registers
 pub mod Sector

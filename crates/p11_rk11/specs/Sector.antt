@@ -3,7 +3,7 @@ use Rattle.std.specs.Prelude.{ℕ, ◌-◌, ◌*◌, ◌++◌, List, drop, map, 
 use Rattle.std.specs.List.{flat_map, range_with_len}
 use Rattle.byteorder.specs.Endian.{little_bytes, little_number}
 use Rattle.p11_overlay.specs.Geometry.{sector_words}
-use Rattle.p11_rk11.specs.Memory.{Words, word_at}
+use Rattle.p11_memory.specs.Memory.{Words, word_at}
 
 -- the words in the bytes of a sector
 unfoldable pub words_of_sector : List ℕ → List ℕ

@@ -11,8 +11,8 @@ ghost use Rattle.p11_rk11.specs.View.{needs_memory, write_is_due, is_listed};
 
 use crate::bay;
 use crate::controller::{DRIVES, Rk11};
-use crate::memory::WordMemory;
 use crate::sector::Stores;
+use p11_memory::WordMemory;
 use p11_words::is_due;
 use std::alloc::{AllocError, Allocator};
 

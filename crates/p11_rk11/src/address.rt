@@ -51,7 +51,7 @@ impl BusAddress {
         (self.0 % 0o200000) as u16
     }
 
-    /// The same address with other bits 17:16.
+    /// This address with other bits 17:16.
     pub(crate) fn with_extension(self, extension: u16) -> BusAddress
         requires { extension < 4 }
         ensures { result ≡ extension * 0o200000 + self % 0o200000 }
@@ -59,7 +59,7 @@ impl BusAddress {
         BusAddress(u32::from(extension) * 0o200000 + self.0 % 0o200000)
     }
 
-    /// The same address with other bits 15:1.
+    /// This address with other bits 15:1.
     pub(crate) fn with_low(self, word: u16) -> BusAddress
         ensures { result ≡ self / 0o200000 * 0o200000 + word / 2 * 2 }
     {

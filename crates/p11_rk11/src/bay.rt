@@ -13,10 +13,10 @@ ghost use Rattle.p11_rk11.specs.View.{is_listed};
 
 use crate::controller::Heads;
 use crate::errors::Failure;
-use crate::memory::WordMemory;
 use crate::mounted::Mounted;
 use crate::place::DiskAddress;
 use crate::registers::Registers;
+use p11_memory::WordMemory;
 use p11_overlay::Drive;
 use p11_words::is_due;
 use std::alloc::{AllocError, Allocator};

@@ -5,7 +5,7 @@ ghost use Rattle.p11_rk11.specs.declared.registers.Registers.{Registers};
 ghost use Rattle.p11_rk11.specs.Acts.{disk_after_turn, stores_of};
 ghost use Rattle.p11_rk11.specs.Functions.{is_read};
 ghost use Rattle.p11_rk11.specs.Laws.Registers.{TransferHasPlace, ShowsItsBits};
-ghost use Rattle.p11_rk11.specs.Memory.{Words, has_word, word_at};
+ghost use Rattle.p11_memory.specs.Memory.{Words, has_word, word_at};
 ghost use Rattle.p11_rk11.specs.Place.{Place, sector_number, next_place};
 ghost use Rattle.p11_rk11.specs.Calls.Due.{disk_due};
 ghost use Rattle.p11_rk11.specs.Calls.Places.{is_on_disk};

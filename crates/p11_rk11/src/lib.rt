@@ -9,7 +9,6 @@ mod drives;
 mod errors;
 mod function;
 mod laws;
-mod memory;
 mod mounted;
 mod place;
 mod register;
@@ -23,7 +22,6 @@ pub use laws::{
     nothing_happens_before_due, number_of_drives, places_and_numbers,
     running_transfers_have_a_place, words_of_a_written_sector, words_that_stay,
 };
-pub use memory::WordMemory;
 pub use mounted::PendingSeek;
 pub use register::Register;
 pub use sector::Stores;

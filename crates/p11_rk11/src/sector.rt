@@ -3,12 +3,12 @@ ghost use Rattle.std.specs.Prelude.{◌≡◌, ℕ, ◌+◌, ◌*◌, ◌%◌, �
 ghost use Rattle.std.specs.List.{range_with_len};
 ghost use Rattle.std.specs.Cmp.Lexicographic.{pointwise};
 ghost use Rattle.p11_rk11.specs.Address.{word_address};
-ghost use Rattle.p11_rk11.specs.Memory.{all_held, all_stored};
+ghost use Rattle.p11_memory.specs.Memory.{all_held, all_stored};
 ghost use Rattle.p11_rk11.specs.Sector.{words_of_sector, bytes_of_words, words_from, sector_from};
 
 use crate::address::BusAddress;
-use crate::memory::WordMemory;
 use byteorder::{ByteOrder, LittleEndian};
+use p11_memory::WordMemory;
 use std::marker::Model;
 
 /// The words in the bytes of a sector.
@@ -119,7 +119,7 @@ impl Span {
         }
     }
 
-    /// The same, by one address after another.
+    /// Whether every address is memory, by one after another.
     fn is_each_held<M: WordMemory>(self, memory: &M) -> bool
         requires { self.count ≤ 256 }
         ensures { result ≡ all_held (word_address self.start self.stays) self.count (M.words memory.now) }
@@ -146,7 +146,7 @@ impl Span {
         }
     }
 
-    /// The same for addresses that are a run.
+    /// A sector's words where the addresses are a run.
     fn load_run<M: WordMemory>(self, memory: &M) -> [u16; 256]
         requires some { 0 < self.count }
         requires count { self.count ≤ 256 }
@@ -161,7 +161,7 @@ impl Span {
         words
     }
 
-    /// The same, one word after another.
+    /// A sector's words, one after another.
     fn load_each<M: WordMemory>(self, memory: &M) -> [u16; 256]
         requires count { self.count ≤ 256 }
         requires held { all_held (word_address self.start self.stays) self.count (M.words memory.now) ≡ true }
@@ -205,7 +205,7 @@ impl Span {
         }
     }
 
-    /// The same for addresses that are a run.
+    /// Stores a sector's first words where the addresses are a run.
     fn store_run<M: WordMemory>(self, memory: &mut M, words: &[u16; 256])
         requires some { 0 < self.count }
         requires count { self.count ≤ 256 }
@@ -220,7 +220,7 @@ impl Span {
         memory.store_run(self.start.all(), &words[..self.count as usize]);
     }
 
-    /// The same, one word after another.
+    /// Stores a sector's first words, one after another.
     fn store_each<M: WordMemory>(self, memory: &mut M, words: &[u16; 256])
         requires count { self.count ≤ 256 }
         requires held { all_held (word_address self.start self.stays) self.count (M.words memory.old) ≡ true }

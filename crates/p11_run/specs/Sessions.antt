@@ -23,7 +23,7 @@ PlaysToFault A r r' s w s' w' =
     × Reads r r' read n (failed ∷ []) × (n ≤ 999999)
     × ScriptDone (LineDoes {A = A}) (ended_lines read) s w s' w' m
 
--- The same, of just 1,000,000 reads, each of which gave bytes.
+-- Just 1,000,000 reads gave bytes. The lines that LF ended in what was read are done, and their text is written.
 abbrev pub PlaysToLimit : Type 0 → ReaderState → ReaderState → SessionState → WriterState → SessionState → WriterState → Type 0
 PlaysToLimit A r r' s w s' w' =
     (read : List ℕ) × (m : ℕ) × (n : ℕ)

@@ -24,7 +24,7 @@ pub(crate) fn hold<A: Allocator + Copy>(
     hold_counted::<Brand, A>(alloc, heap, Blank::new(1), panel, what, trouble)
 }
 
-/// The same, with a store whose refusals are counted from a blank on.
+/// Holds a dialogue with a store whose refusals are counted from a blank on.
 fn hold_counted<L: Ledger, A: Allocator + Copy>(
     alloc: Global,
     heap: A,

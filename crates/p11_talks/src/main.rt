@@ -3,7 +3,7 @@
 //! `p11_talks FILE..` plays each file and prints how many rows it has. One whose name ends in `keys.txt` has keys that are typed into
 //! the console's line (see `Rows`), one whose name ends in `phrases.txt` lines that a person types (see `Phrases`), and any other
 //! one has dialogues (see `Talks`): what comes to a console, what it shows, records and asks its host for. The record, played as a
-//! script on a new machine, types the same and leaves the same. The same is tried with other slices, keys and outputs in pieces of
+//! script on a new machine, types the same and leaves the same. It is tried with other slices, keys and outputs in pieces of
 //! a byte, each call of the store refused, and memory missing at each step. Where something differs, it prints its place, what was
 //! to come and what came instead, and ends with status 1.
 #![tactic(auto)]

@@ -157,7 +157,7 @@ fn play_record(alloc: Global, files: &[StoredFile], came: &Came) -> Result<Again
     play_counted::<Brand>(alloc, Blank::new(1), files, came)
 }
 
-/// The same, with a store whose refusals are counted from a blank on.
+/// Plays the record of a dialogue with a store whose refusals are counted from a blank on.
 fn play_counted<L: Ledger>(
     alloc: Global,
     blank: Blank,

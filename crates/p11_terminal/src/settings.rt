@@ -3,7 +3,7 @@ use crate::ending::Cause;
 use clap::builder::ValueParser;
 use clap::error::ErrorKind;
 use clap::{Arg, ArgAction, ArgMatches, Command, Error};
-use p11_panel::Config;
+use p11_panel::{Config, MOST_TURNS};
 use std::alloc::{AllocError, Global};
 
 /// The sizes of the machine, and how the dialogue is held.
@@ -46,8 +46,6 @@ const LINES: u32 = 1024;
 
 /// So many turns take some 50 ms.
 const SLICE: u32 = 1_000_000;
-
-const MOST_TURNS: u32 = 100_000_000;
 
 /// What an option takes.
 enum Value {

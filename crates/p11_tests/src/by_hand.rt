@@ -188,7 +188,7 @@ pub(crate) fn give_commands(alloc: Global) -> Result<(), Wrong> {
     give_each(alloc, &mut panel)
 }
 
-/// The same, on this machine.
+/// Gives this machine commands with such numbers.
 fn give_each(alloc: Global, panel: &mut Panel) -> Result<(), Wrong> {
     for (odd, expected) in &ODD {
         let command = command(alloc, odd)?;
@@ -279,7 +279,7 @@ const REFUSED: Places = Places {
     most: u32::MAX,
 };
 
-/// The same, with memory that comes back a piece at a time.
+/// Plays a list of commands on a heap whose memory comes back a piece at a time.
 fn play_on_full_heap<A: Allocator + Copy>(
     alloc: Global,
     mut ballast: Ballast<A>,

@@ -67,7 +67,7 @@ pub(crate) fn play_calmly(
     play_counted::<Brand>(alloc, Blank::new(1), setting, lines, refused)
 }
 
-/// The same, with a store whose refusals are counted from a blank on.
+/// Plays lines with a store whose refusals are counted from a blank on.
 fn play_counted<L: Ledger>(
     alloc: Global,
     blank: Blank,
@@ -83,7 +83,7 @@ fn play_counted<L: Ledger>(
     play_with(alloc, shelf, setting, lines)
 }
 
-/// The same, with this store.
+/// Plays lines on a new machine with this store.
 fn play_with<L: Ledger>(
     alloc: Global,
     shelf: Shelf<L>,

@@ -33,8 +33,8 @@ pub(crate) fn play_on_full_heap(
     same_session(alloc, setting.case.name.as_str(), &again, &parted)
 }
 
-/// The same session, with a store whose refusals are counted from a blank on: its lines, where a run stands in as many
-/// parts as memory stopped it.
+/// Plays a case with a store whose refusals are counted from a blank on: its lines, where a run stands in as many parts as
+/// memory stopped it.
 fn play_counted<L: Ledger, A: Allocator + Copy>(
     alloc: Global,
     ballast: Ballast<A>,
@@ -50,7 +50,7 @@ fn play_counted<L: Ledger, A: Allocator + Copy>(
     play_with(alloc, ballast, shelf, setting, calm)
 }
 
-/// The same, with this store.
+/// Plays a case with this store, on a heap whose memory comes back.
 fn play_with<L: Ledger, A: Allocator + Copy>(
     alloc: Global,
     mut ballast: Ballast<A>,

@@ -116,7 +116,7 @@ fn run_with(alloc: Global, setting: &Setting<'_>, free: usize) -> Result<String,
     play_counted::<Brand>(alloc, &arena, Blank::new(1), setting, free)
 }
 
-/// The same, with a store whose refusals are counted from a blank on.
+/// What the run comes to with a store whose refusals are counted from a blank on.
 fn play_counted<L: Ledger>(
     alloc: Global,
     arena: &Bump,
@@ -137,7 +137,7 @@ fn play_counted<L: Ledger>(
     run_on(alloc, &mut bench, setting, free)
 }
 
-/// The same, on this machine.
+/// What the run comes to on this machine.
 fn run_on<L: Ledger>(
     alloc: Global,
     bench: &mut Bench<L, &Bump>,

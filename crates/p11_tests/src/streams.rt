@@ -159,7 +159,7 @@ pub(crate) fn play<R: Read>(
     play_counted::<Brand, R>(alloc, Blank::new(1), setting, reader, writer)
 }
 
-/// The same, with a store whose refusals are counted from a blank on.
+/// Plays a session with a store whose refusals are counted from a blank on.
 fn play_counted<L: Ledger, R: Read>(
     alloc: Global,
     blank: Blank,
@@ -178,7 +178,7 @@ fn play_counted<L: Ledger, R: Read>(
     play_on(alloc, setting, &mut bench, reader, writer)
 }
 
-/// The same, on this machine.
+/// Plays a session on this machine.
 fn play_on<L: Ledger, R: Read>(
     alloc: Global,
     setting: &Setting<'_>,

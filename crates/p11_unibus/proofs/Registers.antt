@@ -1,7 +1,7 @@
 -- What registers have to do with memory: nothing.
 use Rattle.std.proofs.Common.{◌≡◌, ℕ, refl}
 use Rattle.std.specs.Prelude.{Option, Some, None, option_map}
-use Rattle.p11_rk11.specs.Memory.{Words}
+use Rattle.p11_memory.specs.Memory.{Words}
 use Rattle.p11_unibus.specs.declared.register.Register.{Register}
 use Rattle.p11_unibus.specs.declared.register.Register.TheVariants.{Clock, Line, Disk, Switches}
 use Rattle.p11_unibus.specs.State.{BusState}

@@ -6,7 +6,7 @@ use Rattle.std.specs.Prelude.{ℕ, Bool, true, false, Option, Some, None, option
 use Rattle.std.specs.Option.{option_map_or}
 use Rattle.p11_kw11.specs.LineClock.{clock_word, clock_after_write}
 use Rattle.p11_dl11.specs.LineEvents.{line_word, line_after_read, line_after_write}
-use Rattle.p11_rk11.specs.Memory.{has_word, word_at, stored}
+use Rattle.p11_memory.specs.Memory.{has_word, word_at, stored}
 use Rattle.p11_rk11.specs.Starts.{disk_after_write}
 use Rattle.p11_rk11.specs.State.{disk_word}
 use Rattle.p11_unibus.specs.declared.register.Register.{Register}

@@ -1,6 +1,6 @@
 -- Bytes of words: the low byte of a word stands at its even address, the high byte at the odd one.
 use Rattle.std.specs.Prelude.{ℕ, ◌+◌, ◌-◌, ◌*◌, ◌/◌, ◌%◌, ◌==◌, Bool, if◌then◌else◌}
-use Rattle.p11_rk11.specs.Memory.{Words, has_word}
+use Rattle.p11_memory.specs.Memory.{Words, has_word}
 
 -- the address of the word that holds a byte
 abbrev pub even : ℕ → ℕ

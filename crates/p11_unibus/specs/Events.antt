@@ -4,7 +4,7 @@ use Rattle.p11_kw11.specs.LineClock.{clock_after_init, clock_after_period, clock
 use Rattle.p11_dl11.specs.LineEvents.{line_after_init, line_after_key}
 use Rattle.p11_dl11.specs.declared.line.KeysFull.{KeysFull}
 use Rattle.p11_overlay.specs.Drive.{Contents}
-use Rattle.p11_rk11.specs.Memory.{word_at, stored}
+use Rattle.p11_memory.specs.Memory.{word_at, stored}
 use Rattle.p11_rk11.specs.State.{disk_after_init, disk_after_mount, disk_after_unmount}
 use Rattle.p11_unibus.specs.Bytes.{even, with_byte}
 use Rattle.p11_unibus.specs.State.{BusState}

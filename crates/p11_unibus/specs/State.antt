@@ -1,9 +1,9 @@
 -- What is on the Unibus.
-use Rattle.std.specs.Prelude.{ℕ, ◌*◌, List, [], replicate}
+use Rattle.std.specs.Prelude.{ℕ, List, []}
 use Rattle.p11_kw11.specs.LineClock.{LineClock, new_clock}
 use Rattle.p11_dl11.specs.LineState.{LineState}
 use Rattle.p11_dl11.specs.LineEvents.{new_line}
-use Rattle.p11_rk11.specs.Memory.{Words}
+use Rattle.p11_memory.specs.Memory.{Words, new_memory}
 use Rattle.p11_rk11.specs.State.{Rk11State, new_disk}
 
 -- memory, as the words from address 0 up; the line clock; the console line; the disk controller with its drives; the
@@ -15,10 +15,6 @@ pub record BusState : Type 0 where
   pub disk : Rk11State
   pub switches : ℕ
   pub typed : List ℕ
-
--- so many thousand (1,024) words of zeros, from address 0
-unfoldable pub new_memory : ℕ → Words
-new_memory kwords = replicate (kwords * 1024) 0
 
 -- a new machine's bus
 unfoldable pub new_bus : ℕ → BusState

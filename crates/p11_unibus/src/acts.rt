@@ -35,7 +35,7 @@ impl<A: Allocator> Unibus<A> {
         self.find_memory(turn)
     }
 
-    /// The same where the console line or the disk controller may act in the turn. The line clock needs no memory.
+    /// Finds that memory where the console line or the disk controller may act in the turn. The line clock needs none.
     #[tactic(auto, unfolding(crate::specs::Prepared::needs_memory))]
     #[inline(never)]
     fn find_memory(&mut self, turn: u64) -> Result<(), AllocError>
@@ -111,7 +111,7 @@ impl<A: Allocator> Unibus<A> {
         self.disk_acts(turn);
     }
 
-    /// The same. A turn before their nearest due one asks neither.
+    /// What the console line and then the disk controller do in this turn. Before their nearest due turn neither is asked.
     #[tactic(auto, using(crate::proofs::DueLemmas::no_other_change_yet, crate::proofs::DueLemmas::no_other_store_yet))]
     #[inline]
     fn others_act(&mut self, turn: u64)
@@ -155,7 +155,7 @@ impl<A: Allocator> Unibus<A> {
         self.act(turn);
     }
 
-    /// The same where a device may act in the turn.
+    /// What the devices do in this turn, each in its place, where one may act in it.
     #[tactic(auto, unfolding(crate::specs::Acts::bus_after_turn, crate::specs::Acts::bus_after_clock))]
     fn act(&mut self, turn: u64)
         requires turn { turn ≤ 2 ^ 62 }

@@ -1,6 +1,6 @@
 //! What a device on the bus is, and that the line clock, the console line and the disk controller are devices.
 ghost use Rattle.std.specs.Prelude.{◌≡◌, ◌∷◌, [], ℕ, Bool, List, Option, is_some};
-ghost use Rattle.p11_rk11.specs.Memory.{Words};
+ghost use Rattle.p11_memory.specs.Memory.{Words};
 ghost use Rattle.p11_unibus.specs.Kept.Devices.{AfterNone, BeforeEach};
 ghost use Rattle.p11_unibus.specs.Written.{is_listed};
 

@@ -2,15 +2,15 @@
 ghost use Rattle.std.specs.Prelude.{◌≡◌, ◌↔◌, ◌%◌, ◌≤◌, ◌<◌, ℕ, false, Some, None};
 ghost use Rattle.p11_unibus.specs.Acts.{bus_after_turn, is_any_due};
 ghost use Rattle.p11_rk11.specs.Acts.{stores_of};
-ghost use Rattle.p11_rk11.specs.Memory.{has_word};
+ghost use Rattle.p11_memory.specs.Memory.{has_word, new_memory};
 ghost use Rattle.p11_unibus.specs.Bytes.{byte_at, with_byte};
 ghost use Rattle.p11_unibus.specs.Calls.References.{answers};
 ghost use Rattle.p11_unibus.specs.Laws.Due.{acts_in, IsNextDue, NoneLater};
 ghost use Rattle.p11_unibus.specs.Due.{next_due};
 ghost use Rattle.p11_unibus.specs.Laws.Words.{GrantsNoneLower, ShowsThere, StaysElsewhere};
 ghost use Rattle.p11_unibus.specs.Registers.{register_at};
-ghost use Rattle.p11_unibus.specs.State.{BusState, new_memory};
-ghost use Rattle.p11_unibus.specs.Laws.Memory.{io_page};
+ghost use Rattle.p11_unibus.specs.State.{BusState};
+ghost use Rattle.p11_memory.specs.Laws.Memory.{io_page};
 ghost use Rattle.p11_unibus.specs.Kept.Written.{ChangedOnly};
 
 use crate::source::Source;
@@ -18,7 +18,7 @@ use p11_psw::Priority;
 use p11_rk11::{memory_stays, words_that_stay};
 
 /// Memory of 124 thousand (1,024) words at most has no word on the I/O page.
-#[tactic(auto, unfolding(crate::specs::State::new_memory, p11_rk11::specs::Memory::has_word))]
+#[tactic(auto, unfolding(p11_memory::specs::Memory::new_memory, p11_memory::specs::Memory::has_word))]
 pub fn memory_ends_below_the_io_page(kwords: u32, address: u32)
     requires size { kwords ≤ 124 }
     requires page { io_page ≤ address }
@@ -37,14 +37,14 @@ pub fn a_byte_is_read_back(address: u32, byte: u16, word: u16)
 {}
 
 /// An odd address answers nowhere.
-#[tactic(auto, unfolding(crate::specs::Calls::References::answers, crate::specs::Bus::see, p11_rk11::specs::Memory::has_word, crate::specs::Registers::register_at))]
+#[tactic(auto, unfolding(crate::specs::Calls::References::answers, crate::specs::Bus::see, p11_memory::specs::Memory::has_word, crate::specs::Registers::register_at))]
 pub fn an_odd_address_answers_nowhere(turn: u64, address: u32)
     requires { address % 2 ≡ 1 }
     ensures { (b : BusState) → answers turn address b ≡ false }
 {}
 
 /// A word that is written to memory shows there, and every other address shows what it did.
-#[tactic(auto, using(crate::proofs::Registers::memory_shows_in_no_register), unfolding(crate::specs::Bus::change, crate::specs::Bus::see, p11_rk11::specs::Memory::has_word, p11_rk11::specs::Memory::word_at, p11_rk11::specs::Memory::stored))]
+#[tactic(auto, using(crate::proofs::Registers::memory_shows_in_no_register), unfolding(crate::specs::Bus::change, crate::specs::Bus::see, p11_memory::specs::Memory::has_word, p11_memory::specs::Memory::word_at, p11_memory::specs::Memory::stored))]
 pub fn a_word_written_to_memory_shows(turn: u64, address: u32, word: u16)
     ensures there { ShowsThere turn address word }
     ensures elsewhere { StaysElsewhere turn address word }

@@ -13,7 +13,6 @@ mod devices;
 mod due;
 mod events;
 mod laws;
-mod memory;
 mod references;
 mod register;
 mod requests;
@@ -33,7 +32,7 @@ pub use laws::{
     the_acts_write_words_of_a_disk_read_alone, the_highest_request_is_granted,
     the_next_due_turn_is_the_first_in_which_a_device_acts,
 };
-pub use memory::Memory;
+pub use p11_memory::Memory;
 pub use references::is_transmitter_high_byte;
 pub use register::Register;
 pub use source::Source;

@@ -33,7 +33,7 @@ impl Register {
         Register::by_device(address)
     }
 
-    /// The same, as the devices know their addresses.
+    /// The register at an address, as the devices know their addresses.
     #[tactic(auto, unfolding(crate::specs::Calls::Tables::register_by_device))]
     #[inline(always)]
     fn by_device(address: u32) -> Option<Register>

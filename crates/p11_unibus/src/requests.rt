@@ -102,7 +102,7 @@ impl<A: Allocator> Unibus<A> {
         self.grant_highest(priority)
     }
 
-    /// The same where a source may request an interrupt.
+    /// Grants the highest request above a priority, where a source may request an interrupt.
     #[tactic(auto, unfolding(crate::specs::Requests::grant_of))]
     #[inline(never)]
     fn grant_highest(&mut self, priority: Priority) -> Option<Vector>

@@ -58,7 +58,7 @@ fn are_enough(
     Ok(are_enough)
 }
 
-/// The same of a new drive at a new heap.
+/// Whether so many bytes of a new heap are enough to prepare a sector of a new drive.
 fn are_enough_when_new(rt: &impl Abort, alloc: Global, spare: usize) -> Result<bool, AllocError>
     requires { spare ≤ 12288 }
 {

@@ -2,7 +2,7 @@
 use Rattle.std.specs.Prelude.{◌≡◌, ℕ, true, map, false, ◌↔◌, length}
 use Rattle.p11_kt11.specs.Management.{Management}
 use Rattle.p11_kt11.specs.Page.{unwritten_page}
-use Rattle.p11_rk11.specs.Memory.{has_word, word_at}
+use Rattle.p11_memory.specs.Memory.{has_word, word_at}
 use Rattle.p11_cpu.specs.Confinement.{IsReached, IsConfining, after_devices, begins_service}
 use Rattle.p11_cpu.specs.State.{State}
 

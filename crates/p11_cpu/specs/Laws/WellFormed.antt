@@ -2,7 +2,7 @@
 -- the I/O page, and memory management has eight pages in each space.
 use Rattle.std.specs.Prelude.{◌≡◌, ◌<◌, All, length}
 use Rattle.p11_kt11.specs.Laws.Pages.{IsManagement}
-use Rattle.p11_unibus.specs.Laws.Memory.{IsMemory}
+use Rattle.p11_memory.specs.Laws.Memory.{IsMemory}
 use Rattle.p11_cpu.specs.declared.registers.Registers.{Registers}
 use Rattle.p11_cpu.specs.State.{State}
 

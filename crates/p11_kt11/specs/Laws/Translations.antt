@@ -21,7 +21,7 @@ TopAloneGoesToIoPage =
     (mode : Mode) (address : ℕ) (kind : Kind) (s : Management) → address < 2 ^ 16 → s.status.enabled ≡ false
     → IsOkAnd (place mode address kind s) (λ p. (0o160000 ≤ address) ↔ ((0o760000 ≤ p) × (p < 2 ^ 18)))
 
--- the same reference twice in a row gets the same answer twice
+-- a reference made twice in a row gets one answer
 abbrev pub RepeatsItsAnswer : Type 0
 RepeatsItsAnswer =
     (mode : Mode) (address : ℕ) (kind : Kind) (s : Management) → let translated = translate_of mode address kind in

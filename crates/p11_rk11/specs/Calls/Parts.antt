@@ -2,7 +2,7 @@
 use Rattle.std.specs.Prelude.{ℕ, Option}
 use Rattle.p11_rk11.specs.declared.registers.Registers.{Registers}
 use Rattle.p11_rk11.specs.Drives.{MountedDrive}
-use Rattle.p11_rk11.specs.Memory.{Words}
+use Rattle.p11_memory.specs.Memory.{Words}
 use Rattle.p11_rk11.specs.State.{Rk11State, with_registers_and_drive}
 
 -- the registers, drive n and memory are changed together

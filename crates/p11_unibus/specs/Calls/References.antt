@@ -1,6 +1,6 @@
 -- A program's references, and which addresses answer.
 use Rattle.std.specs.Prelude.{ℕ, Bool, is_some, Result, Ok, Err, ◌==◌, if◌then◌else◌}
-use Rattle.p11_rk11.specs.Memory.{stored}
+use Rattle.p11_memory.specs.Memory.{stored}
 use Rattle.p11_unibus.specs.Bus.{see, after_read, shown_or, change, answered_or, replaced_or, transmitter_high_byte}
 use Rattle.p11_unibus.specs.Bytes.{byte_at, even, with_byte}
 use Rattle.p11_unibus.specs.State.{BusState}

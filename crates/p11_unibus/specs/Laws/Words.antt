@@ -2,7 +2,7 @@
 use Rattle.std.specs.Prelude.{ℕ, ◌≡◌, ◌≢◌, ◌≤◌, true, Some, IsSomeAnd}
 use Rattle.p11_psw.specs.Fields.{priority_number}
 use Rattle.p11_psw.specs.declared.priority.Priority.{Priority}
-use Rattle.p11_rk11.specs.Memory.{has_word}
+use Rattle.p11_memory.specs.Memory.{has_word}
 use Rattle.p11_unibus.specs.State.{BusState}
 use Rattle.p11_unibus.specs.Bus.{see, change}
 use Rattle.p11_unibus.specs.declared.source.Source.{Source}

@@ -1,6 +1,6 @@
 use Rattle.std.proofs.Common.{◌≡◌, ◌≢◌, ℕ, true, false, cond, refl, ap, arith}
 use Rattle.std.proofs.lemmas.Grind.{common_steps}
-use Rattle.p11_rk11.specs.Memory.{Words, has_word, word_at, stored}
+use Rattle.p11_memory.specs.Memory.{Words, has_word, word_at, stored}
 use Rattle.p11_unibus.proofs.Registers.{memory_shows_in_no_register, word_there}
 use Rattle.p11_unibus.specs.Bus.{see, change}
 use Rattle.p11_unibus.specs.Registers.{register_at}

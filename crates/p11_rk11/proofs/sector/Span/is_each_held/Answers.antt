@@ -1,5 +1,5 @@
 use Rattle.std.proofs.Common.{refl, sym, ◌∙◌}
-use Rattle.p11_rk11.specs.Memory.{all_held}
+use Rattle.p11_memory.specs.Memory.{all_held}
 use Rattle.p11_rk11.proofs.Words.{held_more, not_held}
 use Rattle.p11_rk11.proofs.sector.Span.is_each_held.Goals as goal
 

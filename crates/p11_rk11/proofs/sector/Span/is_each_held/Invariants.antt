@@ -1,6 +1,6 @@
 use Rattle.std.proofs.Common.{◌≡◌, true}
 use Rattle.p11_rk11.specs.Address.{word_address}
-use Rattle.p11_rk11.specs.Memory.{all_held}
+use Rattle.p11_memory.specs.Memory.{all_held}
 use Rattle.p11_rk11.proofs.sector.Span.is_each_held.Given as goal
 
 abbrev pub invariant-loop-k : goal.invariant-loop-k

@@ -1,5 +1,5 @@
 use Rattle.std.proofs.Common.{refl, arith}
-use Rattle.p11_rk11.specs.Memory.{all_stored}
+use Rattle.p11_memory.specs.Memory.{all_stored}
 use Rattle.p11_rk11.proofs.Words.{held_at, all_stored_held, stored_more}
 use Rattle.p11_rk11.proofs.sector.Span.store_each.Goals as goal
 

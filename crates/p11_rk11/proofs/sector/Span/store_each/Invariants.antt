@@ -1,6 +1,6 @@
 use Rattle.std.proofs.Common.{◌≡◌, ◌+◌, ◌≤◌}
 use Rattle.p11_rk11.specs.Address.{word_address}
-use Rattle.p11_rk11.specs.Memory.{all_stored}
+use Rattle.p11_memory.specs.Memory.{all_stored}
 use Rattle.p11_rk11.proofs.sector.Span.store_each.Given as goal
 
 abbrev pub invariant-loop-k : goal.invariant-loop-k

@@ -1,7 +1,7 @@
-//! Memory as the controller sees it.
+//! Memory as a device reaches it.
 ghost use Rattle.std.specs.Prelude.{◌≡◌, ℕ, ◌+◌, ◌/◌, ◌%◌, ◌<◌, ◌≤◌, true, length};
-ghost use Rattle.p11_rk11.specs.Calls.Runs.{run_at, with_run};
-ghost use Rattle.p11_rk11.specs.Memory.{Words, has_word, word_at, stored};
+ghost use Rattle.p11_memory.specs.Calls.Runs.{run_at, with_run};
+ghost use Rattle.p11_memory.specs.Memory.{Words, has_word, word_at, stored};
 
 /// Words of memory, as a device reaches them: a list, of which word `k` is at address `2 * k`, and room for a
 /// number of stores.

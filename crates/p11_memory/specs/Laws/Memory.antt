@@ -1,6 +1,6 @@
 -- What every memory is.
 use Rattle.std.specs.Prelude.{ℕ, ◌*◌, ◌<◌, ◌≤◌, length, All}
-use Rattle.p11_rk11.specs.Memory.{Words}
+use Rattle.p11_memory.specs.Memory.{Words}
 
 -- the first bus address of the I/O page, where memory ends at the latest
 abbrev pub io_page : ℕ

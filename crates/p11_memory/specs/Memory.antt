@@ -1,8 +1,12 @@
--- Memory as a device sees it: the list of its words, of which word k is at address 2k.
-use Rattle.std.specs.Prelude.{ℕ, zero, suc, ◌/◌, ◌%◌, Bool, true, ◌==◌, ◌&&◌, nat_lt, List, length, slice_index, slice_set}
+-- Memory: the list of its words, of which word k is at address 2k.
+use Rattle.std.specs.Prelude.{ℕ, zero, suc, ◌*◌, ◌/◌, ◌%◌, Bool, true, ◌==◌, ◌&&◌, nat_lt, List, length, replicate, slice_index, slice_set}
 
 abbrev pub Words : Type 0
 Words = List ℕ
+
+-- so many thousand (1,024) words of zeros, from address 0
+unfoldable pub new_memory : ℕ → Words
+new_memory kwords = replicate (kwords * 1024) 0
 
 -- whether there is memory at an address
 unfoldable pub has_word : Words → ℕ → Bool

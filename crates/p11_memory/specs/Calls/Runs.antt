@@ -1,6 +1,6 @@
 -- Words of memory at addresses that follow one another.
 use Rattle.std.specs.Prelude.{ℕ, ◌/◌, ◌++◌, List, length, take, drop}
-use Rattle.p11_rk11.specs.Memory.{Words}
+use Rattle.p11_memory.specs.Memory.{Words}
 
 -- n words from an address on
 abbrev pub run_at : Words → ℕ → ℕ → List ℕ

@@ -1,0 +1,2 @@
+-- What contracts of single calls say.
+pub mod Runs

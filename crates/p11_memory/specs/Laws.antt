@@ -1,0 +1,2 @@
+-- What every memory is.
+pub mod Memory
