@@ -11,7 +11,7 @@ const { dialogues } = require('./dialogues.js');
 const { kinds } = require('./kinds.js');
 const { badFiles, trap, policy, lacking } = require('./bad.js');
 const { looks, names, keyboard, glass } = require('./looks.js');
-const { tabs, list, full, earlier } = require('./tabs.js');
+const { slow, tabs, list, full, earlier } = require('./tabs.js');
 const { presses } = require('./presses.js');
 const { editing, asked, unanswered } = require('./editing.js');
 const { cases } = require('./cases.js');
@@ -39,7 +39,7 @@ async function checked(command, { made, p11, examples, casesFile }) {
   try {
     await run(plays, await run(evening));
     for (const next of [boots, editing, asked, unanswered, presses, kinds, badFiles, keyboard, names, looks, glass, pace, sizes, copies]) await run(next);
-    for (const next of [link, beside, tabs, list, full, earlier, policy, lacking]) await run(next);
+    for (const next of [link, beside, slow, tabs, list, full, earlier, policy, lacking]) await run(next);
     for (const next of [packed, back, late, stopped, scripted, kills, cuts, random, dialogues]) await run(next);
     const told = await run(cases);
     await run(single);

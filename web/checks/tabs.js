@@ -1,5 +1,5 @@
-// What the browser keeps: a second tab has a machine of its own, and takes the session over if it is asked to; the list of sessions;
-// and storage that is full.
+// What the browser keeps: a session whose claim the browser is slow to grant; a second tab has a machine of its own, and takes the
+// session over if it is asked to; the list of sessions; and storage that is full.
 'use strict';
 const assert = require('assert');
 const { downloaded, kept } = require('./evening.js');
@@ -8,6 +8,28 @@ const { withoutRemark } = require('./compare.js');
 const attempt = (page, line) => page.eval(`app.desk.command(${JSON.stringify(line)})`);
 const shows = (page, text) => page.until(`app.view.text().includes(${JSON.stringify(text)})`);
 const idOf = (page) => page.eval('app.store.session.id');
+
+// The browser takes longer to grant a claim than the page waits for a tab that is closing.
+const SLOW = `(() => {
+  const { request } = navigator.locks;
+  navigator.locks.request = async () => {
+    navigator.locks.request = request;
+    throw new DOMException('slow', 'TimeoutError');
+  };
+})()`;
+
+async function slow({ page, url, say }) {
+  await page.goTo(url);
+  await page.eval('app.sessions.fresh(28)');
+  await attempt(page, 'deposit 5000 321');
+  await kept(page);
+  const first = await idOf(page), was = await page.before(SLOW);
+  await page.goTo(url);
+  await was();
+  await shows(page, 'The session goes on');
+  assert.equal(await idOf(page), first, 'the page took a slow browser for another tab');
+  say('a session is back where the browser is slow to grant it');
+}
 
 async function tabs({ page, url, say }) {
   const asks = await page.before("navigator.storage.persist = async () => { globalThis.asked = (globalThis.asked ?? 0) + 1; };");
@@ -118,4 +140,4 @@ async function earlier({ page, url, say }) {
   say('a session that an earlier form of the page kept goes on');
 }
 
-module.exports = { tabs, list, full, earlier };
+module.exports = { slow, tabs, list, full, earlier };
