@@ -35,9 +35,9 @@ cleared_registers =
 abbrev pub is_ready : Registers → Bool
 is_ready r = not (is_some r.transfer)
 
--- RKCS: 3:1 function, 5:4 address 17:16, 6 enable, 7 ready, 8 stop on soft error, 10 format, 11 inhibit increment,
--- 13 search complete. 14 is 1 exactly where a bit of RKER other than 0 is set, and 15 exactly where RKER isn't 0. GO
--- reads as 0.
+-- RKCS: 3:1 FUNCTION, 5:4 address 17:16 (EX), 6 enable (IDE), 7 ready (RDY), 8 stop on soft error (SSE), 10 format (FMT),
+-- 11 inhibit increment (IBA), 13 search complete (SCP). 14 (HE) is 1 exactly where a bit of RKER other than 0 is set, and
+-- 15 (ERR) exactly where RKER isn't 0. GO reads as 0.
 unfoldable pub control_word : Registers → ℕ
 control_word r =
     function_number r.function * 0o2 + r.bus_address / 0o200000 * 0o20 + flag r.enable 0o100 + flag (is_ready r) 0o200

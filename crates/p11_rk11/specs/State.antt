@@ -39,8 +39,8 @@ selected s = drive_of s s.registers.disk_address.drive
 unfoldable pub new_disk : Rk11State
 new_disk = record { registers = cleared_registers; drives = replicate drive_count None }
 
--- RKDS, but for 15:13. It is 0 for an empty drive; else 3:0 the sector counter, 4 it equals RKDA 3:0, 5 write protect,
--- 6 read/write/seek ready unless the drive seeks, 7 drive ready, 8 counter good, 11 RK05
+-- RKDS, but for 15:13. It is 0 for an empty drive; else 3:0 the sector counter (SC), 4 it equals RKDA 3:0 (SC=SA), 5 write
+-- protect (WPS), 6 read/write/seek ready (R/W/S RDY) unless the drive seeks, 7 drive ready (DRY), 8 counter good (SOK), 11 RK05
 unfoldable pub status_of : ℕ → ℕ → Option MountedDrive → ℕ
 status_of turn sector None = 0
 status_of turn sector (Some drive) =

@@ -93,7 +93,7 @@ impl<A: Allocator> Mounted<A> {
         }
     }
 
-    /// RKDS but for its bits 15:13.
+    /// RKDS but for its bits 15:13: SC, SC=SA, WPS, R/W/S RDY, DRY, SOK and RK05.
     #[tactic(auto, unfolding(crate::specs::State::status_of))]
     pub(crate) fn status(&self, turn: u64, sector: u8) -> u16
         ensures value { result ≡ status_of turn sector (Some self.now.visible) }

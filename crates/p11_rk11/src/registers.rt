@@ -19,27 +19,27 @@ use p11_words::{bit, flag};
 pub struct Registers {
     /// RKER: bit 0 after a write check that found a difference, and the bit of each hard error.
     pub errors: u16,
-    /// RKCS 3:1.
+    /// RKCS 3:1, FUNCTION.
     pub function: Function,
-    /// RKCS 6.
+    /// RKCS 6, IDE: whether a request interrupts.
     pub enable: bool,
-    /// RKCS 8.
+    /// RKCS 8, SSE: whether a difference in a write check ends it.
     pub stop_on_soft_error: bool,
-    /// RKCS 10.
+    /// RKCS 10, FMT.
     pub format: bool,
-    /// RKCS 11.
+    /// RKCS 11, IBA: whether all words of a sector have one address.
     pub inhibit_increment: bool,
-    /// RKCS 13.
+    /// RKCS 13, SCP.
     pub search_complete: bool,
     /// RKWC.
     pub word_count: u16,
-    /// RKCS 5:4 and RKBA.
+    /// RKCS 5:4, EX, and RKBA.
     pub bus_address: BusAddress,
     /// RKDA.
     pub disk_address: DiskAddress,
     /// RKDS 15:13.
     pub finished_seek: DriveNumber,
-    /// The turn in which the running transfer's sector is due. RKCS 7, ready, is 1 where none runs.
+    /// The turn in which the running transfer's sector is due. RKCS 7, RDY, is 1 where none runs.
     pub transfer: Option<u64>,
     /// The request for an interrupt.
     pub request: bool,
