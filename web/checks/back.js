@@ -12,7 +12,14 @@ const COUNTS = 'deposit 1000 5267 1000 5200 10021 20127 20000 103402 12701 4000 
 const record = (page) => page.eval("app.link.ask('record')");
 const turnsOf = (page) => page.eval("app.link.ask('regs').then((it) => it.turns)");
 const attempt = (page, line) => page.eval(`app.desk.command(${JSON.stringify(line)})`);
-const isBack = (page) => page.until('app.back && !app.desk.isHeld && app.link.asked.size === 0');
+
+// What the page shows and has, on one line.
+const shown = (page) => page.eval(`JSON.stringify({ back: app.back ?? null, session: app.store?.session ?? null,
+  offer: document.querySelector('#offer').innerText, text: app.view.text().trim().slice(-300) })`);
+
+const isBack = (page) => page.until('app.back && !app.desk.isHeld && app.link.asked.size === 0').catch(async (error) => {
+  throw new Error(`${error.message}; the page has ${await shown(page)}`);
+});
 
 // Until the pages are kept too, as the machine is now, between two runs.
 async function keptWhole(page) {
