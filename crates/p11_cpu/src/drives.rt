@@ -1,5 +1,5 @@
 //! The packs on the drives.
-ghost use Rattle.std.specs.Prelude.{◌≡◌, ◌<◌, ◌≤◌, false, true, is_some, length, option_copied, OnOk, OnErr};
+ghost use Rattle.std.specs.Prelude.{◌≡◌, ◌<◌, ◌≤◌, [], false, true, is_some, length, option_copied, slice_set, OnOk, OnErr};
 ghost use Rattle.p11_rk11.specs.State.{contents_of, drive_count, drive_of, is_busy};
 ghost use Rattle.p11_rk11.specs.Kept.View.{contents_lent};
 ghost use Rattle.p11_cpu.specs.OperatorDevices.{mount_of, unmount_of};
@@ -11,8 +11,8 @@ use std::alloc::{AllocError, Allocator};
 
 impl<A: Allocator + Copy> Machine<A> {
     /// Mounts a pack that holds an image, and zeros behind it, on an empty drive. The only error is want of memory, and
-    /// nothing that is visible changes then.
-    #[tactic(auto, unfolding(crate::specs::OperatorDevices::mount_of), using(crate::proofs::Agreeing::still_agrees))]
+    /// nothing changes then. For this drive no sector is prepared afterwards.
+    #[tactic(auto, unfolding(crate::specs::OperatorDevices::mount_of), using(crate::proofs::Agreeing::still_agrees, crate::proofs::Readying::drive_changed))]
     pub fn mount(
         &mut self,
         alloc: A,
@@ -24,7 +24,9 @@ impl<A: Allocator + Copy> Machine<A> {
         requires empty { is_some (drive_of self.old.visible.bus.disk n) ≡ false }
         requires fits { length image.now ≤ image_bytes }
         ensures ok { OnOk result (self.new.visible ≡ mount_of n image.now protected self.old.visible) }
-        ensures err { OnErr result (self.new.visible ≡ self.old.visible) }
+        ensures prepared { OnOk result (self.new.prepared
+            ≡ record self.old.prepared { sectors = slice_set self.old.prepared.sectors n [] }) }
+        ensures err { OnErr result (self.new ≡ self.old) }
     {
         let drive = Drive::mount(alloc, image, protected)?;
         self.hardware.quiet_until = 0;
@@ -34,13 +36,15 @@ impl<A: Allocator + Copy> Machine<A> {
 }
 
 impl<A: Allocator> Machine<A> {
-    /// Takes the pack off a drive and drops it.
-    #[tactic(auto, unfolding(crate::specs::OperatorDevices::unmount_of), using(crate::proofs::Agreeing::still_agrees))]
+    /// Takes the pack off a drive and drops it, with the sectors that were prepared.
+    #[tactic(auto, unfolding(crate::specs::OperatorDevices::unmount_of), using(crate::proofs::Agreeing::still_agrees, crate::proofs::Readying::drive_changed))]
     pub fn unmount(&mut self, n: usize)
         requires exists { n < drive_count }
         requires mounted { is_some (drive_of self.old.visible.bus.disk n) ≡ true }
         requires idle { is_busy n self.old.visible.bus.disk ≡ false }
-        ensures { self.new.visible ≡ unmount_of n self.old.visible }
+        ensures state { self.new.visible ≡ unmount_of n self.old.visible }
+        ensures prepared { self.new.prepared
+            ≡ record self.old.prepared { sectors = slice_set self.old.prepared.sectors n [] } }
     {
         self.hardware.quiet_until = 0;
         self.hardware.bus.unibus.unmount(n);

@@ -11,7 +11,6 @@ mod decoded_bus;
 mod double_operand;
 mod drives;
 mod extended_instructions;
-mod found;
 mod hardware;
 mod held;
 mod laws;

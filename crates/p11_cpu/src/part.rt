@@ -60,14 +60,6 @@ pub(crate) fn is_of_a_device(address: u32) -> bool
 }
 
 impl Part {
-    /// Below the I/O page is the bus alone. The call does nothing.
-    #[tactic(auto, unfolding(crate::specs::References::part_at, p11_kt11::specs::Registers::answers, p11_kt11::specs::Register::register_at, p11_kt11::specs::Register::page_from))]
-    #[inline(always)]
-    pub fn is_the_bus_below_the_io_page(_address: u32)
-        requires { _address < 0o760000 }
-        ensures { part_at _address ≡ parts.Bus }
-    {}
-
     /// The one that answers at a bus address. One comparison finds memory on the bus, and two the devices.
     #[tactic(auto, unfolding(crate::specs::References::part_at, p11_kt11::specs::Registers::answers, p11_kt11::specs::Register::register_at, p11_kt11::specs::Register::page_from))]
     #[inline(always)]

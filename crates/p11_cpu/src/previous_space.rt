@@ -42,10 +42,10 @@ impl<A: Allocator> Hardware<A> {
         }
     }
 
-    /// MFPI, out of line.
+    /// MFPI.
     #[tactic(auto, unfolding(crate::specs::Instructions::execute_of))]
     #[inline(never)]
-    fn mfpi_apart(&mut self, turn: TurnNumber, operand: Operand) -> Result<(), Trap>
+    pub fn mfpi(&mut self, turn: TurnNumber, operand: Operand) -> Result<(), Trap>
         ensures { execute_of (Op.Mfpi operand) turn self.old ≡ (self.new, result) }
     {
         let source = self.find_place(turn, Size::Word, operand)?;
@@ -56,10 +56,10 @@ impl<A: Allocator> Hardware<A> {
         Ok(())
     }
 
-    /// MTPI, out of line.
+    /// MTPI.
     #[tactic(auto, unfolding(crate::specs::Instructions::execute_of))]
     #[inline(never)]
-    fn mtpi_apart(&mut self, turn: TurnNumber, operand: Operand) -> Result<(), Trap>
+    pub fn mtpi(&mut self, turn: TurnNumber, operand: Operand) -> Result<(), Trap>
         ensures { execute_of (Op.Mtpi operand) turn self.old ≡ (self.new, result) }
     {
         let word = self.pop(turn)?;
@@ -67,27 +67,5 @@ impl<A: Allocator> Hardware<A> {
         self.set_logic_codes_for(Size::Word, word);
         self.write_previous(turn, destination, word)?;
         Ok(())
-    }
-
-    /// MFPI.
-    #[inline(always)]
-    pub fn mfpi(&mut self, turn: TurnNumber, operand: Operand) -> Result<(), Trap>
-        ensures { execute_of (Op.Mfpi operand) turn self.old ≡ (self.new, result) }
-    {
-        match self.mfpi_apart(turn, operand) {
-            Ok(()) => Ok(()),
-            Err(trap) => Err(trap),
-        }
-    }
-
-    /// MTPI.
-    #[inline(always)]
-    pub fn mtpi(&mut self, turn: TurnNumber, operand: Operand) -> Result<(), Trap>
-        ensures { execute_of (Op.Mtpi operand) turn self.old ≡ (self.new, result) }
-    {
-        match self.mtpi_apart(turn, operand) {
-            Ok(()) => Ok(()),
-            Err(trap) => Err(trap),
-        }
     }
 }

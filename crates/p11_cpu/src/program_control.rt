@@ -134,10 +134,10 @@ impl<A: Allocator> Hardware<A> {
         }
     }
 
-    /// MARK, out of line.
+    /// MARK.
     #[tactic(auto, unfolding(crate::specs::Instructions::execute_of))]
     #[inline(never)]
-    fn mark_apart(&mut self, turn: TurnNumber, count: Count) -> Result<(), Trap>
+    pub fn mark(&mut self, turn: TurnNumber, count: Count) -> Result<(), Trap>
         ensures { execute_of (Op.Mark count) turn self.old ≡ (self.new, result) }
     {
         let pc = self.register(Register::Pc);
@@ -160,17 +160,6 @@ impl<A: Allocator> Hardware<A> {
         if !is_zero(self.register(register)) {
             let back = 2 * u16::from(count.words());
             self.set_register(Register::Pc, minus(self.register(Register::Pc), back));
-        }
-    }
-
-    /// MARK.
-    #[inline(always)]
-    pub fn mark(&mut self, turn: TurnNumber, count: Count) -> Result<(), Trap>
-        ensures { execute_of (Op.Mark count) turn self.old ≡ (self.new, result) }
-    {
-        match self.mark_apart(turn, count) {
-            Ok(()) => Ok(()),
-            Err(trap) => Err(trap),
         }
     }
 }

@@ -1,5 +1,5 @@
 //! A drive as the image that was mounted, and the sectors that were prepared or written since.
-ghost use Rattle.std.specs.Prelude.{◌≡◌, ℕ, ◌<◌, ◌≤◌, ◌+◌, ◌-◌, ◌++◌, true, false, cond, nat_eq, length, replicate, vec_len, vec_capacity, Some, None, IsTrue, IfOk, OnOk, OnErr, IsOk};
+ghost use Rattle.std.specs.Prelude.{◌≡◌, ℕ, ◌<◌, ◌≤◌, ◌+◌, ◌-◌, ◌++◌, true, false, cond, nat_eq, length, replicate, vec_len, vec_capacity, [], Some, None, IsTrue, IfOk, OnOk, OnErr, IsOk};
 ghost use Rattle.std.specs.List.{list_any};
 ghost use Rattle.indexmap.specs.IndexMap.{get, index_map_len, keys, IsUnchanged};
 ghost use Rattle.p11_overlay.specs.Drive.{changed_with, filled, sector_within};
@@ -62,6 +62,7 @@ impl<A: Allocator + Copy> Drive<A> {
         requires { length image.now ≤ image_bytes }
         ensures contents { IfOk result (λ d. d.contents ≡ mounted image.now protected) }
         ensures bytes { IfOk result (λ d. image_of d.contents ≡ filled image.now) }
+        ensures prepared { IfOk result (λ d. d.prepared ≡ []) }
     {
         let base = sectors_with_bytes(alloc, image)?;
         Ok(Drive {
