@@ -59,13 +59,19 @@ class Bench:
         """What came of each of these edits, made together: the verdict, why, and its part of the seconds of processor."""
         sources = made_together(edits, self.sources)
         self.write(sources)
-        found, seconds = self.start([edit for edit in edits if not edit.caller])
+        # (a second run of the prover takes longer than to look at what these functions call)
+        found, seconds = self.start([] if any(edit.caller or self.has_answers(edit) for edit in edits) else edits)
         more, checking = self.check([edit for edit in edits if edit not in found], sources)
         self.write(self.sources)
         return [(*(found | more)[edit], (seconds + checking) / len(edits)) for edit in edits]
 
+    def has_answers(self, edit):
+        """Whether the function by which an edit is judged has a proof file of its own."""
+        place = [part for part in edit.judged().split("::") if part != edit.crate]
+        return bool(glob.glob(os.path.join("proofs", "**", *place, "Answers.antt"), root_dir=self.folder, recursive=True))
+
     def start(self, edits):
-        """The verdicts on those of these edits whose functions have no proof file of their own, and the seconds of processor."""
+        """The verdicts on those of these edits for which a start is enough, and the seconds of processor."""
         if not edits:
             return {}, 0.0
         text, seconds = self.checks.run([*self.words, *(word for edit in edits for word in ("--start", edit.function))], self.folder)

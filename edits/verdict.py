@@ -4,8 +4,8 @@ An edit is refused if the prover ran to its end, the function that the edit name
 of the caller that the edit names. All else that isn't proved shows nothing of a contract: a text that doesn't parse or type, a
 name that a proof file looks for in vain, a refusal elsewhere, a limit of the prover.
 
-A function that has no proof file of its own is judged by its goals that the prover's own search leaves open, for which it starts such
-a file (judge_start); one that has a file is checked (judge).
+A function is judged by its check (judge). Where it has no proof file of its own, its goals that the prover's own search leaves open
+can tell without one: the prover starts such a file for them (judge_start).
 """
 import os
 import re
