@@ -5,7 +5,7 @@ import subprocess
 import tempfile
 import threading
 
-from batches import made_together
+from batches import Calls, made_together
 from functions import place_of
 from proved import words_of_check
 from verdict import REFUSED, judge, judge_start, written
@@ -54,30 +54,45 @@ class Bench:
         os.mkdir(proved)
         self.words = [*words_of_check(crates, crate), "--incremental", proved]
         self.sources = sources_of(self.folder)
+        self.calls = Calls(self.sources)
 
     def try_together(self, edits):
         """What came of each of these edits, made together: the verdict, why, and its part of the seconds of processor."""
         sources = made_together(edits, self.sources)
         self.write(sources)
-        # (a second run of the prover takes longer than to look at what these functions call)
-        found, seconds = self.start([] if any(edit.caller or self.has_answers(edit) for edit in edits) else edits)
+        found, seconds = self.start([] if self.are_soon_checked(edits) else [edit for edit in edits if not edit.caller])
         more, checking = self.check([edit for edit in edits if edit not in found], sources)
         self.write(self.sources)
         return [(*(found | more)[edit], (seconds + checking) / len(edits)) for edit in edits]
 
-    def has_answers(self, edit):
-        """Whether the function by which an edit is judged has a proof file of its own."""
-        place = [part for part in edit.judged().split("::") if part != edit.crate]
-        return bool(glob.glob(os.path.join("proofs", "**", *place, "Answers.antt"), root_dir=self.folder, recursive=True))
+    def are_soon_checked(self, edits):
+        """Whether a check of these edits takes no longer than a start before it, which may leave open those with a proof file."""
+        reached = set().union(*(self.calls.reached(edit.judged()) for edit in edits))
+        return bool(self.answers_of(edits)) and len(reached) <= 4 * len(edits)
+
+    def answers_of(self, edits):
+        """The texts of the proof files by which the functions' goals are proved that the prover's own search leaves open, by path."""
+        found = {}
+        for edit in edits:
+            place = [part for part in edit.judged().split("::") if part != edit.crate]
+            for path in glob.glob(os.path.join("proofs", "**", *place, "Answers.antt"), root_dir=self.folder, recursive=True):
+                with open(os.path.join(self.folder, path), encoding="utf-8") as file:
+                    found[path] = file.read()
+        return found
 
     def start(self, edits):
-        """The verdicts on those of these edits for which a start is enough, and the seconds of processor."""
+        """The verdicts on those of these edits for which a start is enough, and the seconds of processor. The prover starts no file
+        that is there, so the functions' own ones are set aside."""
         if not edits:
             return {}, 0.0
+        answers = self.answers_of(edits)
+        for path in answers:
+            os.remove(os.path.join(self.folder, path))
         text, seconds = self.checks.run([*self.words, *(word for edit in edits for word in ("--start", edit.function))], self.folder)
-        found = {edit: judge_start(edit, text, self.folder) for edit in edits}
-        for file in sum(written(text, edits[0].crate).values(), []):
-            os.remove(os.path.join(self.folder, file))
+        found = {edit: judge_start(edit, text, self.folder, answers) for edit in edits}
+        for path in sum(written(text, edits[0].crate).values(), []):
+            os.remove(os.path.join(self.folder, path))
+        self.write(answers)
         return {edit: outcome for edit, outcome in found.items() if outcome}, seconds
 
     def check(self, edits, sources):

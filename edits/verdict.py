@@ -4,8 +4,8 @@ An edit is refused if the prover ran to its end, the function that the edit name
 of the caller that the edit names. All else that isn't proved shows nothing of a contract: a text that doesn't parse or type, a
 name that a proof file looks for in vain, a refusal elsewhere, a limit of the prover.
 
-A function is judged by its check (judge). Where it has no proof file of its own, its goals that the prover's own search leaves open
-can tell without one: the prover starts such a file for them (judge_start).
+A function is judged by its check (judge), with all that it calls. Sooner told is which goals the prover's own search leaves open: it
+starts a proof file for them. One that the function's own file has no answer for isn't proved (judge_start).
 """
 import os
 import re
@@ -19,7 +19,8 @@ ENDED = re.compile(r"^only=\d+ proved=\d+$", re.M)
 STARTED = re.compile(r"^started=\d+$", re.M)
 WROTE = re.compile(r"^wrote \./(proofs/(\S+)/(?:Answers|Invariants|Proof)\.antt)$", re.M)
 NEEDS_NONE = re.compile(r"^note: `(\S+)` needs no (?:other )?file: nothing is left to choose or to answer$", re.M)
-HOLE = re.compile(r"^-- (\S+):\d+\n(?:.*\n)*?(\S+)(?: \w+)* = \?$", re.M)
+HOLE = re.compile(r"^-- (\S+):\d+\n(?:(?!-- ).*\n)*?(\S+)(?: \w+)* = \?$", re.M)
+ANSWER = re.compile(r"^pub (\S+) :", re.M)
 
 
 def named(functions, name):
@@ -47,9 +48,10 @@ def written(text, crate):
     return found
 
 
-def judge_start(edit, text, folder):
+def judge_start(edit, text, folder, answers):
     """The verdict on an edit by what the prover left open of its function, in the proof file that it started in the crate's folder;
-    None where the function has to be checked: it has a file of its own, or no search alone can decide it."""
+    None where the function has to be checked: all that is open has an answer in the function's own file, of which `answers` has the
+    text by its path, or the prover started no such file."""
     if not STARTED.search(text):
         return None
     files, proved = written(text, edit.crate), NEEDS_NONE.findall(text)
@@ -59,8 +61,9 @@ def judge_start(edit, text, folder):
     if [os.path.basename(it) for it in mine] != ["Answers.antt"]:
         return None
     with open(os.path.join(folder, mine[0]), encoding="utf-8") as file:
-        hole = HOLE.search(file.read())
-    return (REFUSED, f"{hole[1]}: it is not proved: `{hole[2]}`") if hole else None
+        holes = HOLE.findall(file.read())
+    answered = ANSWER.findall(answers.get(mine[0], ""))
+    return next(((REFUSED, f"{place}: it is not proved: `{goal}`") for place, goal in holes if goal not in answered), None)
 
 
 def judge(edit, text, file, lines):
