@@ -6,20 +6,18 @@ ghost use Rattle.p11_console.specs.Files.{Gives, Names, opening, wanted, image_i
 ghost use Rattle.p11_console.specs.Said.{Says};
 ghost use Rattle.p11_console.specs.Steps.{status_of};
 ghost use Rattle.p11_console.specs.Typing.{rested};
-ghost use Rattle.p11_c.specs.Calls.{lent};
-ghost use Rattle.p11_c.specs.HeldCalls.{HandsText};
-ghost use Rattle.p11_c.specs.Registers.{told_registers};
-ghost use Rattle.p11_c.specs.SeatCalls.{OnConsole, OpensConsole, DoneOr, TakesFront, HandsFront, HandsWanted, HandsDevices, wished};
-ghost use Rattle.p11_c.specs.SeatCalls.{StepsTelling, TakesBy, error_of, number_of_bool};
-ghost use Rattle.p11_c.specs.Statuses.{number_of_status};
-ghost use Rattle.p11_c.specs.declared.status.Status.{Status};
+ghost use Rattle.p11_handles.specs.Calls.{lent};
+ghost use Rattle.p11_handles.specs.HeldCalls.{HandsText};
+ghost use Rattle.p11_handles.specs.Registers.{told_registers};
+ghost use Rattle.p11_handles.specs.SeatCalls.{OnConsole, OpensConsole, DoneOr, TakesFront, HandsFront, HandsWanted, HandsDevices, wished};
+ghost use Rattle.p11_handles.specs.SeatCalls.{StepsTelling, TakesBy, error_of, number_of_bool};
+ghost use Rattle.p11_handles.specs.Statuses.{number_of_status};
+ghost use Rattle.p11_handles.specs.declared.status.Status.{Status};
 
-use crate::console_handle::{ConsoleHandle, new_seat};
-use crate::handing::{hand_devices, hand_front, hand_wanted};
-use crate::handle::hand_text;
-use crate::host_words::{number_of_bool, number_of_want};
-use crate::registers::{Registers, tell_registers};
-use crate::status::Status;
+use p11_handles::{
+    ConsoleHandle, Registers, Status, hand_devices, hand_front, hand_text, hand_wanted, new_seat,
+    number_of_bool, number_of_want, tell_registers,
+};
 use std::alloc::Global;
 
 /// Makes a console over a new machine, which the handle holds from then on in the place of what it held.

@@ -3,41 +3,22 @@
 #![tactic(auto)]
 
 ghost use Rattle.std.specs.Prelude.{◌≡◌, ⊤, List, ℕ, None, nat_lt};
-ghost use Rattle.p11_c.specs.Calls.{Ends, asked_for, lent};
+ghost use Rattle.p11_handles.specs.Calls.{Ends, asked_for, lent};
 ghost use Rattle.p11_cpu.specs.OperatorDevices.{machine_devices_of};
-ghost use Rattle.p11_c.specs.HeldCalls.{OnHeld, LinesEnd, PutsFile, ForgetsFile, HandsText, HandsTyped, HandsFiles};
-ghost use Rattle.p11_c.specs.HeldCalls.{HandsFile, Opens};
-ghost use Rattle.p11_c.specs.HeldRuns.{RunEnds};
-ghost use Rattle.p11_c.specs.Registers.{told_registers};
-ghost use Rattle.p11_c.specs.Statuses.{number_of_status};
-ghost use Rattle.p11_c.specs.Typed.{typed_in};
-ghost use Rattle.p11_c.specs.declared.status.Status.{Status};
+ghost use Rattle.p11_handles.specs.HeldCalls.{OnHeld, LinesEnd, PutsFile, ForgetsFile, HandsText, HandsTyped, HandsFiles};
+ghost use Rattle.p11_handles.specs.HeldCalls.{HandsFile, Opens};
+ghost use Rattle.p11_handles.specs.HeldRuns.{RunEnds};
+ghost use Rattle.p11_handles.specs.Registers.{told_registers};
+ghost use Rattle.p11_handles.specs.Statuses.{number_of_status};
+ghost use Rattle.p11_handles.specs.Typed.{typed_in};
+ghost use Rattle.p11_handles.specs.declared.status.Status.{Status};
 
 mod console;
-mod console_handle;
-mod desk;
-mod handing;
-mod handle;
-mod host_words;
-mod loose;
-mod registers;
-mod rows;
-mod run;
-mod script;
-mod seat;
-mod seat_slot;
-mod session;
-mod slot;
-mod status;
-mod store;
-mod typed;
 
-use crate::handle::{Handle, hand_file, hand_files, hand_text, hand_typed, new_desk};
-use crate::registers::Registers;
-use crate::run::Run;
-use crate::session::{hand_out, play, play_typed};
-use crate::status::Status;
-pub use rows::rows_read_back;
+use p11_handles::{
+    Handle, Registers, Run, Status, hand_file, hand_files, hand_out, hand_text, hand_typed,
+    new_desk, play, play_typed,
+};
 use std::alloc::Global;
 
 /// Does a whole script on a new machine, and hands out the text of its answers and the files after it.

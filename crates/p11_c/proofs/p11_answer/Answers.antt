@@ -1,6 +1,6 @@
 use Rattle.std.proofs.Common.{◌∙◌, refl, ap, to_z-of_z, w32}
-use Rattle.p11_c.specs.Held.{Kept}
-use Rattle.p11_c.proofs.HeldLemmas.{on_none, on_some, text_handed}
+use Rattle.p11_handles.specs.Held.{Kept}
+use Rattle.p11_handles.proofs.HeldLemmas.{on_none, on_some, text_handed}
 use Rattle.p11_c.proofs.p11_answer.Goals as goal
 
 pub returns-in_default : goal.returns-in_default

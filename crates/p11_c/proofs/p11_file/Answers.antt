@@ -1,8 +1,8 @@
 use Rattle.std.proofs.Common.{◌∙◌, refl, subst, to_z-of_z, w32}
-use Rattle.p11_c.specs.Calls.{lent}
-use Rattle.p11_c.specs.Held.{Kept}
-use Rattle.p11_c.specs.HeldCalls.{HandsFile}
-use Rattle.p11_c.proofs.HeldLemmas.{on_none, on_some}
+use Rattle.p11_handles.specs.Calls.{lent}
+use Rattle.p11_handles.specs.Held.{Kept}
+use Rattle.p11_handles.specs.HeldCalls.{HandsFile}
+use Rattle.p11_handles.proofs.HeldLemmas.{on_none, on_some}
 use Rattle.p11_c.proofs.p11_file.Goals as goal
 
 pub returns-in_default : goal.returns-in_default

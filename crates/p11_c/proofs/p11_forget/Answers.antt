@@ -1,7 +1,7 @@
 use Rattle.std.proofs.Common.{◌∙◌, subst, to_z-of_z, w32}
-use Rattle.p11_c.specs.Held.{Kept}
-use Rattle.p11_c.specs.HeldCalls.{ForgetsFile}
-use Rattle.p11_c.proofs.HeldLemmas.{on_none, on_some}
+use Rattle.p11_handles.specs.Held.{Kept}
+use Rattle.p11_handles.specs.HeldCalls.{ForgetsFile}
+use Rattle.p11_handles.proofs.HeldLemmas.{on_none, on_some}
 use Rattle.p11_c.proofs.p11_forget.Goals as goal
 
 pub returns-in_default : goal.returns-in_default

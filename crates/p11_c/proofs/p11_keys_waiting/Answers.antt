@@ -1,8 +1,8 @@
 use Rattle.std.proofs.Common.{◌∙◌, refl, ap, to_z-of_z, w32}
 use Rattle.p11_cpu.specs.OperatorDevices.{machine_devices_of}
-use Rattle.p11_c.specs.Held.{Kept}
-use Rattle.p11_c.specs.declared.status.Status.TheVariants.{Done}
-use Rattle.p11_c.proofs.HeldLemmas.{on_none, on_some}
+use Rattle.p11_handles.specs.Held.{Kept}
+use Rattle.p11_handles.specs.declared.status.Status.TheVariants.{Done}
+use Rattle.p11_handles.proofs.HeldLemmas.{on_none, on_some}
 use Rattle.p11_c.proofs.p11_keys_waiting.Goals as goal
 
 pub returns-in_default : goal.returns-in_default

@@ -1,6 +1,6 @@
 use Rattle.std.proofs.Common.{◌∙◌, inl, inr, refl, to_z-of_z, w32}
-use Rattle.p11_c.specs.Calls.{lent}
-use Rattle.p11_c.proofs.CallLemmas.{hands_of}
+use Rattle.p11_handles.specs.Calls.{lent}
+use Rattle.p11_handles.proofs.CallLemmas.{hands_of}
 use Rattle.p11_c.proofs.p11_session.Goals as goal
 
 pub returns-in-Ok : goal.returns-in-Ok

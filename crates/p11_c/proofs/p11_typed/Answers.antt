@@ -1,7 +1,7 @@
 use Rattle.std.proofs.Common.{◌∙◌, inl, inr, refl, to_z-of_z, w32}
-use Rattle.p11_c.specs.Calls.{lent}
-use Rattle.p11_c.specs.Typed.{typed_in}
-use Rattle.p11_c.proofs.CallLemmas.{hands_of}
+use Rattle.p11_handles.specs.Calls.{lent}
+use Rattle.p11_handles.specs.Typed.{typed_in}
+use Rattle.p11_handles.proofs.CallLemmas.{hands_of}
 use Rattle.p11_c.proofs.p11_typed.Goals as goal
 
 pub returns-in-Ok : goal.returns-in-Ok

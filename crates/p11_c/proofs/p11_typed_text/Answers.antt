@@ -1,8 +1,8 @@
 use Rattle.std.proofs.Common.{List, ℕ, ◌∙◌, refl, ap, subst, to_z-of_z, w32}
-use Rattle.p11_c.specs.Calls.{lent}
-use Rattle.p11_c.specs.Held.{Kept}
-use Rattle.p11_c.specs.HeldCalls.{HandsTyped}
-use Rattle.p11_c.proofs.HeldLemmas.{on_none, on_some}
+use Rattle.p11_handles.specs.Calls.{lent}
+use Rattle.p11_handles.specs.Held.{Kept}
+use Rattle.p11_handles.specs.HeldCalls.{HandsTyped}
+use Rattle.p11_handles.proofs.HeldLemmas.{on_none, on_some}
 use Rattle.p11_c.proofs.p11_typed_text.Goals as goal
 
 pub returns-in_default : goal.returns-in_default

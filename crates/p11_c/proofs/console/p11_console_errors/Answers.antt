@@ -1,5 +1,5 @@
 use Rattle.std.proofs.Common.{◌∙◌, refl, to_z-of_z, w32}
-use Rattle.p11_c.proofs.SeatLemmas.{on_none, on_some}
+use Rattle.p11_handles.proofs.SeatLemmas.{on_none, on_some}
 use Rattle.p11_c.proofs.console.p11_console_errors.Goals as goal
 
 pub returns-in_default : goal.returns-in_default

@@ -1,9 +1,9 @@
 use Rattle.std.proofs.Common.{◌∙◌, List, ℕ, Option, refl, ap, subst, to_z-of_z, w32}
 use Rattle.p11_console.specs.Files.{wanted}
-use Rattle.p11_c.specs.Calls.{lent}
-use Rattle.p11_c.specs.Seats.{Dialogue}
-use Rattle.p11_c.specs.SeatCalls.{HandsWanted}
-use Rattle.p11_c.proofs.SeatLemmas.{on_none, on_some}
+use Rattle.p11_handles.specs.Calls.{lent}
+use Rattle.p11_handles.specs.Seats.{Dialogue}
+use Rattle.p11_handles.specs.SeatCalls.{HandsWanted}
+use Rattle.p11_handles.proofs.SeatLemmas.{on_none, on_some}
 use Rattle.p11_c.proofs.console.p11_console_name.Goals as goal
 
 pub returns-in_default : goal.returns-in_default

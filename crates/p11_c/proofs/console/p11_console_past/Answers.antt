@@ -1,9 +1,9 @@
 use Rattle.std.proofs.Common.{◌∙◌, List, ℕ, refl, ap, subst, to_z-of_z, w32}
-use Rattle.p11_c.specs.Calls.{lent}
-use Rattle.p11_c.specs.Seats.{Dialogue}
-use Rattle.p11_c.specs.SeatCalls.{HandsFront}
-use Rattle.p11_c.specs.declared.status.Status.TheVariants.{Done}
-use Rattle.p11_c.proofs.SeatLemmas.{on_none, on_some}
+use Rattle.p11_handles.specs.Calls.{lent}
+use Rattle.p11_handles.specs.Seats.{Dialogue}
+use Rattle.p11_handles.specs.SeatCalls.{HandsFront}
+use Rattle.p11_handles.specs.declared.status.Status.TheVariants.{Done}
+use Rattle.p11_handles.proofs.SeatLemmas.{on_none, on_some}
 use Rattle.p11_c.proofs.console.p11_console_past.Goals as goal
 
 pub returns-in_default : goal.returns-in_default

@@ -1,8 +1,8 @@
 use Rattle.std.proofs.Common.{◌∙◌, refl, subst, ◌≡◌, to_z-of_z, w32}
 use Rattle.p11_console.specs.Typing.{rested}
-use Rattle.p11_c.specs.Seats.{Dialogue}
-use Rattle.p11_c.specs.declared.status.Status.TheVariants.{Done}
-use Rattle.p11_c.proofs.SeatLemmas.{on_none, on_some}
+use Rattle.p11_handles.specs.Seats.{Dialogue}
+use Rattle.p11_handles.specs.declared.status.Status.TheVariants.{Done}
+use Rattle.p11_handles.proofs.SeatLemmas.{on_none, on_some}
 use Rattle.p11_c.proofs.console.p11_console_paused.Goals as goal
 
 pub returns-in_default : goal.returns-in_default

@@ -1,8 +1,8 @@
 use Rattle.std.proofs.Common.{◌∙◌, refl, ap, to_z-of_z, w32}
-use Rattle.p11_c.specs.Registers.{told_registers}
-use Rattle.p11_c.specs.Seats.{Dialogue}
-use Rattle.p11_c.specs.declared.status.Status.TheVariants.{Done}
-use Rattle.p11_c.proofs.SeatLemmas.{on_none, on_some}
+use Rattle.p11_handles.specs.Registers.{told_registers}
+use Rattle.p11_handles.specs.Seats.{Dialogue}
+use Rattle.p11_handles.specs.declared.status.Status.TheVariants.{Done}
+use Rattle.p11_handles.proofs.SeatLemmas.{on_none, on_some}
 use Rattle.p11_c.proofs.console.p11_console_regs.Goals as goal
 
 pub returns-in_default : goal.returns-in_default

@@ -1,4 +1,0 @@
-use Rattle.p11_c.proofs.session.play_new.Given as goal
-
-abbrev pub ghosts-play_files : goal.ghosts-play_files
-ghosts-play_files a = record { name = a.blank.name; parts = a.blank.parts }

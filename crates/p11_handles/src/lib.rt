@@ -1,0 +1,35 @@
+//! What the library for C holds and hands out: a machine or a console behind a pointer of C's, files in rows of bytes, and
+//! what its calls answer.
+#![tactic(auto)]
+
+mod console_handle;
+mod desk;
+mod handing;
+mod handle;
+mod host_words;
+mod loose;
+mod registers;
+mod rows;
+mod run;
+mod script;
+mod seat;
+mod seat_slot;
+mod session;
+mod slot;
+mod status;
+mod store;
+mod typed;
+
+pub use console_handle::{ConsoleHandle, new_seat};
+pub use desk::Desk;
+pub use handing::{hand_devices, hand_front, hand_wanted};
+pub use handle::{Handle, hand_file, hand_files, hand_text, hand_typed, new_desk};
+pub use host_words::{number_of_bool, number_of_want};
+pub use registers::{Registers, tell_registers};
+pub use rows::rows_read_back;
+pub use run::Run;
+pub use seat::Seat;
+pub use seat_slot::SeatSlot;
+pub use session::{Given, hand_out, play, play_typed};
+pub use slot::Slot;
+pub use status::Status;
