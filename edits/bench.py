@@ -54,7 +54,7 @@ class Bench:
         os.mkdir(proved)
         self.words = [*words_of_check(crates, crate), "--incremental", proved]
         self.sources = sources_of(self.folder)
-        self.calls = Calls(self.sources)
+        self.calls, self.checked = Calls(self.sources), set()
 
     def try_together(self, edits):
         """What came of each of these edits, made together: the verdict, why, and its part of the seconds of processor."""
@@ -65,10 +65,14 @@ class Bench:
         self.write(self.sources)
         return [(*(found | more)[edit], (seconds + checking) / len(edits)) for edit in edits]
 
+    def reached(self, edits):
+        """The functions to which those of these edits lead."""
+        return set().union(*(self.calls.reached(edit.judged()) for edit in edits))
+
     def are_soon_checked(self, edits):
-        """Whether a check of these edits takes no longer than a start before it, which may leave open those with a proof file."""
-        reached = set().union(*(self.calls.reached(edit.judged()) for edit in edits))
-        return bool(self.answers_of(edits)) and len(reached) <= 4 * len(edits)
+        """Whether a check of these edits takes no longer than a start before it, which may leave open those with a proof file: they
+        lead to few functions that weren't checked here."""
+        return bool(self.answers_of(edits)) and len(self.reached(edits) - self.checked) <= 4 * len(edits)
 
     def answers_of(self, edits):
         """The texts of the proof files by which the functions' goals are proved that the prover's own search leaves open, by path."""
@@ -99,6 +103,7 @@ class Bench:
         """The verdicts on these edits by the check of their functions and of what these call, and the seconds of processor."""
         if not edits:
             return {}, 0.0
+        self.checked |= self.reached(edits)
         names = dict.fromkeys(name for edit in edits for name in edit.names())
         text, seconds = self.checks.run([*self.words, *(word for name in names for word in ("--only", name))], self.folder)
         return {edit: judge(edit, text, *place_in(edit, sources)) for edit in edits}, seconds

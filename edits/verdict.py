@@ -5,7 +5,8 @@ of the caller that the edit names. All else that isn't proved shows nothing of a
 name that a proof file looks for in vain, a refusal elsewhere, a limit of the prover.
 
 A function is judged by its check (judge), with all that it calls. Sooner told is which goals the prover's own search leaves open: it
-starts a proof file for them. One that the function's own file has no answer for isn't proved (judge_start).
+starts a proof file for them. One that the function's own file has no answer for isn't proved (judge_start). Neither way shows that
+such a goal is false: where an edit gives a function with answers another goal, it may only want an answer.
 """
 import os
 import re
