@@ -32,26 +32,11 @@ pub(crate) fn hold_all(alloc: Global, talk: &Talk, files: &[StoredFile]) -> Resu
         is_looked: false,
         ..calm
     })?;
-    let has_past = !talk.sight.past.is_empty();
-    let written = talk.sight.text(alloc, has_past)?;
-    let found = closed.sight.text(alloc, has_past)?;
-    same(alloc, talk.name.as_str(), written.as_str(), found.as_str())?;
-    all.gives_the_same(calm, &closed)?;
+    all.is_as_written(calm, &closed)?;
     if talk.heap > 0 || talk.is_once {
         return Ok(0);
     }
-    let whole = all.hold(calm)?;
-    let (record, record_again) = (closed.record_text(alloc)?, whole.record_text(alloc)?);
-    same(
-        alloc,
-        talk.name.as_str(),
-        record.as_str(),
-        record_again.as_str(),
-    )?;
-    all.gives_the_same(calm, &whole)?;
-    all.break_calmly(calm, &whole)?;
-    all.refuse_calls(calm, &whole)?;
-    all.starve(calm, &whole)
+    all.hold_with_trouble(calm, &closed)
 }
 
 /// A dialogue that is held with something in its way.
@@ -63,6 +48,34 @@ struct All<'a> {
 }
 
 impl All<'_> {
+    /// Compares what came of it with what is written down, and with its record.
+    fn is_as_written(&self, calm: Trouble, closed: &Came) -> Result<(), Wrong> {
+        let (alloc, talk) = (self.alloc, self.talk);
+        let has_past = !talk.sight.past.is_empty();
+        let written = talk.sight.text(alloc, has_past)?;
+        let found = closed.sight.text(alloc, has_past)?;
+        same(alloc, talk.name.as_str(), written.as_str(), found.as_str())?;
+        self.gives_the_same(calm, closed)
+    }
+
+    /// Holds it up to a look at the machine, with nothing in its way and then with something: how often memory was wanted.
+    fn hold_with_trouble(&self, calm: Trouble, closed: &Came) -> Result<u32, Wrong> {
+        let whole = self.hold(calm)?;
+        self.has_record_of(closed, &whole)?;
+        self.gives_the_same(calm, &whole)?;
+        self.break_calmly(calm, &whole)?;
+        self.refuse_calls(calm, &whole)?;
+        self.starve(calm, &whole)
+    }
+
+    /// Compares the records of two.
+    fn has_record_of(&self, closed: &Came, whole: &Came) -> Result<(), Wrong> {
+        let (alloc, name) = (self.alloc, self.talk.name.as_str());
+        let expected = closed.record_text(alloc)?;
+        let found = whole.record_text(alloc)?;
+        same(alloc, name, expected.as_str(), found.as_str())
+    }
+
     /// Holds it.
     fn hold(&self, trouble: Trouble) -> Result<Came, Wrong> {
         let (alloc, what) = (self.alloc, (self.talk, self.files));

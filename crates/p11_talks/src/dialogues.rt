@@ -4,7 +4,7 @@ use crate::spelling::spelled;
 use crate::talk::{Coming, Event, Talk};
 use crate::tally::Tally;
 use p11_test_data::{StoredFile, Wrong, bad_line, number};
-use std::alloc::Global;
+use std::alloc::{AllocError, Global};
 use std::mem;
 
 /// A file of dialogues, read line by line. KEYS and TEXT are written as `spelled` reads them. The first character of a line says
@@ -112,13 +112,7 @@ impl Talks {
 
     /// Takes a file of the store, or more of the last one.
     fn take_file(&mut self, file: StoredFile) -> Result<(), Wrong> {
-        match self.files.last_mut() {
-            Some(last) if last.name.as_slice() == file.name.as_slice() => {
-                last.bytes.extend_from_slice(file.bytes.as_slice())?;
-            }
-            _ => self.files.push(file)?,
-        }
-        Ok(())
+        Ok(add_file(&mut self.files, file)?)
     }
 
     /// Takes a line of text of a file.
@@ -193,5 +187,16 @@ fn push_line(alloc: Global, text: &mut Vec<u8>, line: &str) -> Result<(), Wrong>
 fn push_text(text: &mut Vec<u8>, line: &str) -> Result<(), Wrong> {
     text.extend_from_slice(line.as_bytes())?;
     text.push(b'\n')?;
+    Ok(())
+}
+
+/// Puts a file behind others, or more of the last one behind that.
+fn add_file(files: &mut Vec<StoredFile>, file: StoredFile) -> Result<(), AllocError> {
+    if let Some(last) = files.last_mut() {
+        if last.name.as_slice() == file.name.as_slice() {
+            return last.bytes.extend_from_slice(file.bytes.as_slice());
+        }
+    }
+    files.push(file)?;
     Ok(())
 }

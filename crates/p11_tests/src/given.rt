@@ -161,19 +161,34 @@ fn run_short<L: Ledger>(
     setting: &Setting<'_>,
     free: usize,
 ) -> Result<String, Wrong> {
+    begin(alloc, bench)?;
+    let answer = run_limited(alloc, bench, free)?;
+    let changed = bench.ask(alloc, "changed 0")?;
+    let state = bench.state(alloc, setting)?;
+    Ok(format!(in alloc; "{answer}{changed}{state}")?)
+}
+
+/// Does the lines before the run.
+fn begin<L: Ledger>(alloc: Global, bench: &mut Bench<L, &Bump>) -> Result<(), Wrong> {
     let done = bench.ask(alloc, LINES)?;
-    same(alloc, LINES, "OK\nOK\nOK\nOK\nOK\nOK\n", done.as_str())?;
+    same(alloc, LINES, "OK\nOK\nOK\nOK\nOK\nOK\n", done.as_str())
+}
+
+/// Makes the run while the arena has just so many free bytes: its answer.
+fn run_limited<L: Ledger>(
+    alloc: Global,
+    bench: &mut Bench<L, &Bump>,
+    free: usize,
+) -> Result<String, Wrong> {
     let arena = bench.heap;
     let Some(taken) = arena.chunk_capacity().checked_sub(free) else {
         return Err(bad_line(alloc, "an arena that is too small"));
     };
     let _taken = Vec::<u8, &Bump>::with_capacity(arena, taken)?;
     arena.set_allocation_limit(Some(0));
-    let answer = bench.ask(alloc, RUN)?;
+    let answer = bench.ask(alloc, RUN);
     arena.set_allocation_limit(None);
-    let changed = bench.ask(alloc, "changed 0")?;
-    let state = bench.state(alloc, setting)?;
-    Ok(format!(in alloc; "{answer}{changed}{state}")?)
+    answer
 }
 
 /// The lines that make the turns which are left where memory stopped the run, and show the changed sectors.

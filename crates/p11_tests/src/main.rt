@@ -87,11 +87,16 @@ fn try_cases(rt: &HostRuntime, path: &str, text: &str) -> io::Result<bool> {
 /// Tries the cases of a file's text.
 fn try_text(alloc: Global, text: &str) -> Result<Cases, Wrong> {
     let mut cases = Cases::new(alloc, sizes(alloc, 4, 16)?);
+    take_lines(alloc, &mut cases, text)?;
+    Ok(cases)
+}
+
+/// Tries the cases of these lines.
+fn take_lines(alloc: Global, cases: &mut Cases, text: &str) -> Result<(), Wrong> {
     for line in text.lines() {
         cases.take(alloc, line)?;
     }
-    cases.finish(alloc)?;
-    Ok(cases)
+    cases.finish(alloc)
 }
 
 /// Tries what no file of cases can say, and prints whether all is as it is to be.

@@ -3,7 +3,7 @@ use crate::case::{Case, Setting, sizes};
 use crate::streams::play;
 use p11_panel::Config;
 use p11_test_data::{EndlessReader, PieceReader, PieceWriter, Wrong, same};
-use std::alloc::Global;
+use std::alloc::{AllocError, Global};
 
 /// A front, how many spaces stand behind it, an end, and what the script comes to.
 type Script = (&'static str, u32, &'static str, &'static str);
@@ -67,27 +67,49 @@ fn play_each(alloc: Global, config: Config) -> Result<(), Wrong> {
         files: &[],
     };
     for &(front, spaces, end, expected) in &SCRIPTS {
-        let mut script = String::from_str(alloc, front)?;
-        for _ in 0..spaces {
-            script.push_str(" ")?;
-        }
-        script.push_str(end)?;
-        let mut reader = PieceReader::new(script.as_bytes(), 4096, false);
-        let mut writer = PieceWriter::new(alloc, usize::MAX, usize::MAX, true);
-        let came = play(alloc, &setting, &mut reader, &mut writer)?;
-        let found = format!(in alloc; "{}\n{}", came.end, came.written)?;
-        same(alloc, front, expected, found.as_str())?;
+        let script = spaced(alloc, front, spaces, end)?;
+        play_text(alloc, &setting, front, (script.as_str(), expected))?;
     }
     Ok(())
 }
 
-/// Each line's answer is one write, over several reads.
-fn play_long(alloc: Global, setting: &Setting<'_>) -> Result<(), Wrong> {
+/// A text with so many spaces in it.
+fn spaced(alloc: Global, front: &str, spaces: u32, end: &str) -> Result<String, AllocError> {
+    let mut script = String::from_str(alloc, front)?;
+    for _ in 0..spaces {
+        script.push_str(" ")?;
+    }
+    script.push_str(end)?;
+    Ok(script)
+}
+
+/// Plays a script that is read at once, and compares how it ends and its answers.
+fn play_text(
+    alloc: Global,
+    setting: &Setting<'_>,
+    place: &str,
+    (script, expected): (&str, &str),
+) -> Result<(), Wrong> {
+    let mut reader = PieceReader::new(script.as_bytes(), 4096, false);
+    let mut writer = PieceWriter::new(alloc, usize::MAX, usize::MAX, true);
+    let came = play(alloc, setting, &mut reader, &mut writer)?;
+    let found = format!(in alloc; "{}\n{}", came.end, came.written)?;
+    same(alloc, place, expected, found.as_str())
+}
+
+/// 1,000 runs of a turn, the registers, 204 words, and a refused line.
+fn long_script(alloc: Global) -> Result<String, AllocError> {
     let mut script = String::new(alloc);
     for _ in 0..1000 {
         script.push_str("step 1\n")?;
     }
     script.push_str("regs\nexamine 0 204\nstep 0\n")?;
+    Ok(script)
+}
+
+/// Each line's answer is one write, over several reads.
+fn play_long(alloc: Global, setting: &Setting<'_>) -> Result<(), Wrong> {
+    let script = long_script(alloc)?;
     let mut reader = PieceReader::new(script.as_bytes(), 4096, false);
     let mut writer = PieceWriter::new(alloc, usize::MAX, usize::MAX, true);
     let came = play(alloc, setting, &mut reader, &mut writer)?;
