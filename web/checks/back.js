@@ -1,13 +1,13 @@
 // A session is back at once, from the kept pages of its module's memory: the same machine that its record comes to if it is played again,
-// as it is for another module, with a button that ends that; also where the browser was killed.
+// as it is for another module, with a button that ends that; also where the browser was killed, and within a write.
 'use strict';
 const assert = require('assert'), fs = require('fs'), os = require('os'), path = require('path');
-const { open } = require('./browser.js');
+const { open, isFirefox } = require('./browser.js');
 const { sleep } = require('./page.js');
 const { play, stateOf, STATE } = require('./compare.js');
 const { settle, kept } = require('./evening.js');
 
-const LINES = 100, TURNS = 50000000, MOST_MS = 2000, TRIES = 3, KILLS = 4, MOST_WAIT = 2500, LATE_MS = 2500;
+const LINES = 100, TURNS = 50000000, MOST_MS = 2000, TRIES = 3, KILLS = 4, MOST_WAIT = 2500, LATE_MS = 2500, CUT = 5;
 const COUNTS = 'deposit 1000 5267 1000 5200 10021 20127 20000 103402 12701 4000 766\rset 1 4000\rstart 1000\r';
 const record = (page) => page.eval("app.link.ask('record')");
 const turnsOf = (page) => page.eval("app.link.ask('regs').then((it) => it.turns)");
@@ -15,10 +15,10 @@ const attempt = (page, line) => page.eval(`app.desk.command(${JSON.stringify(lin
 
 // What the page shows and has, on one line.
 const shown = (page) => page.eval(`JSON.stringify({ back: app.back ?? null, session: app.store?.session ?? null,
-  offer: document.querySelector('#offer').innerText, text: app.view.text().trim().slice(-300) })`);
+  offer: document.querySelector('#offer').innerText, note: document.querySelector('#note').textContent, text: app.view.text().trim().slice(-300) })`);
 
-const isBack = (page) => page.until('app.back && !app.desk.isHeld && app.link.asked.size === 0').catch(async (error) => {
-  throw new Error(`${error.message}; the page has ${await shown(page)}`);
+const isBack = (page, when = '') => page.until('app.back && !app.desk.isHeld && app.link.asked.size === 0').catch(async (error) => {
+  throw new Error(`${when}${error.message}; the page has ${await shown(page)}`);
 });
 
 // Until the pages are kept too, as the machine is now, between two runs.
@@ -146,9 +146,11 @@ async function kills({ command, url, native, say, count = KILLS }) {
   try {
     for (let n = 0; n <= count; n++) {
       page = await open(url, { downloads: native.folder, command, home });
-      if (n === 0) await attempt(page, 'deposit 1000 777');
-      else {
-        await isBack(page);
+      if (n === 0) {
+        await attempt(page, 'deposit 1000 777');
+        await page.until('app.store.session?.count > 0 && app.store.last.then(() => true)');
+      } else {
+        await isBack(page, `after kill ${n}, where ${told} turns were told: `);
         revived += await page.eval('app.back.isRevived');
         await page.eval('app.desk.halt()');
         const turns = await turnsOf(page), [state, script] = [await stateOf(page), await record(page)];
@@ -175,4 +177,40 @@ async function kills({ command, url, native, say, count = KILLS }) {
   say(`the browser was killed ${count} times: nothing that was kept is lost, ${revived} times the session was back by its pages, and ./p11 comes to the same`);
 }
 
-module.exports = { back, late, stopped, scripted, kills, isBack, keptWhole, COUNTS, MOST_MS };
+// Cuts off the end of the last record of Chromium's log, if it writes one.
+function cutLog(home) {
+  const kept = path.join(home, 'Default/IndexedDB'), folder = fs.readdirSync(kept).find((it) => it.endsWith('.leveldb'));
+  if (!folder) return;
+  const log = path.join(kept, folder, fs.readdirSync(path.join(kept, folder)).find((it) => it.endsWith('.log')));
+  fs.truncateSync(log, fs.statSync(log).size - CUT);
+}
+
+// Chromium is killed within a write, and leaves half a record: what was kept before it is there the next time, and the time after.
+async function torn({ command, url, native, say }) {
+  if (isFirefox(command)) return;
+  const home = fs.mkdtempSync(path.join(os.tmpdir(), 'p11-torn-'));
+  let was = '', page = null;
+  try {
+    for (let n = 0; n < 3; n++) {
+      page = await open(url, { downloads: native.folder, command, home });
+      if (n > 0) await isBack(page, `half a record was left, at opening ${n} after that: `);
+      const now = n > 0 ? await record(page) : '';
+      assert(n === 1 ? was.startsWith(now) && now !== '' : now === was, `half a record was left, at opening ${n} after that: the record is another`);
+      for (let word = 0; word < 3; word++) {
+        await attempt(page, `deposit 1000 ${word}`);
+        await kept(page);
+      }
+      await keptWhole(page);
+      was = await record(page);
+      await page.kill();
+      page = null;
+      if (n === 0) cutLog(home);
+    }
+  } finally {
+    await page?.kill();
+    fs.rmSync(home, { recursive: true, force: true, maxRetries: 5, retryDelay: 200 });
+  }
+  say('half a record that a browser left which was killed costs that record alone, also at the second opening');
+}
+
+module.exports = { back, late, stopped, scripted, kills, torn, isBack, keptWhole, COUNTS, MOST_MS };

@@ -15,7 +15,7 @@ const { slow, tabs, list, full, earlier } = require('./tabs.js');
 const { presses } = require('./presses.js');
 const { editing, asked, unanswered } = require('./editing.js');
 const { cases } = require('./cases.js');
-const { back, late, stopped, scripted, kills } = require('./back.js');
+const { back, late, stopped, scripted, kills, torn } = require('./back.js');
 const { cuts } = require('./cuts.js');
 const { random } = require('./random.js');
 const { packed, lesson } = require('./packed.js');
@@ -40,7 +40,7 @@ async function checked(command, { made, p11, examples, casesFile }) {
     await run(plays, await run(evening));
     for (const next of [boots, editing, asked, unanswered, presses, kinds, badFiles, keyboard, names, looks, glass, pace, sizes, copies]) await run(next);
     for (const next of [link, beside, slow, tabs, list, full, earlier, policy, lacking]) await run(next);
-    for (const next of [packed, back, late, stopped, scripted, kills, cuts, random, dialogues]) await run(next);
+    for (const next of [packed, back, late, stopped, scripted, kills, torn, cuts, random, dialogues]) await run(next);
     const told = await run(cases);
     await run(single);
     await run(lesson);

@@ -116,6 +116,7 @@ class App {
     const asked = new URLSearchParams(location.search);
     const [boot, pack, script] = ['boot', 'pack', 'script'].map((name) => asked.get(name));
     const sessions = await this.store.list(), lesson = lessonIn(), last = lesson ?? boot ?? pack ?? script ? undefined : sessions.find(({ turns, count }) => turns > 0 || count !== 0);
+    this.store.beginLog();
     if (last && await this.sessions.reopen(last.id)) return;
     if (sessions.length > 0) this.sessions.kwords = sessions[0].kwords;
     if (lesson) { await this.sessions.openPacked(document.title, lesson); return; }

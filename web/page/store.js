@@ -5,6 +5,7 @@
 'use strict';
 
 const MOST_SESSIONS = 20, MOST_LINES = 200, TABLES = ['sessions', 'lines', 'files', 'pages'], HEAD = -2;
+const NO_SESSION = 0, FULL_LOG = 160, ROW_BYTES = 32768;   // the number that no session has; rows of it that fill a log of Chromium's (4 MB)
 const ofSession = (id) => IDBKeyRange.bound([id], [id, []]);
 
 const wait = (request) => new Promise((done, fail) => {
@@ -84,6 +85,16 @@ class Store {
       this.refuse(error);
       return undefined;
     }
+  }
+
+  // Has Chromium begin a new log of what it writes. Where it was killed, or the power went, the last record of the log may be cut off. It
+  // writes behind that record when it is opened again, and the next time takes the log for damaged and drops all that was kept. It begins a
+  // new log at the first record behind one that is full. Of the browsers Chromium alone tells of such a loss.
+  beginLog() {
+    if (!this.db || !('dataLoss' in IDBVersionChangeEvent.prototype)) return;
+    const bytes = new Uint8Array(ROW_BYTES), otherwise = () => {};
+    this.change((table) => { for (let n = 0; n < FULL_LOG; n++) table('pages').put({ id: NO_SESSION, n, bytes }); }, otherwise);
+    this.change((table) => { table('pages').delete(ofSession(NO_SESSION)); }, otherwise);
   }
 
   // A new session. Those that nothing was done in go, and where there are too many the oldest that have no name of their own;
