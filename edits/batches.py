@@ -1,4 +1,4 @@
-"""Edits of one crate that one check can try together: no two change one function.
+"""Edits of one crate that one check can try together: no two change one function. Where two would, one of them is made in a copy.
 
 The prover takes a function that is called by its contract alone, so a change of one body leaves open no goal of another function, and
 an edit is judged by the goals of its own one (verdict.py). A function that an edit changes and isn't judged by may have no contract:
@@ -6,7 +6,7 @@ no other edit's function leads to it by calls.
 """
 import re
 
-from edit import Bad
+from edit import Bad, Twin, twin_of
 from functions import functions, name_at
 
 
@@ -47,9 +47,10 @@ class Reach:
     """What an edit changes, the function by which it is judged, what it changes besides, and which functions that one leads to."""
 
     def __init__(self, edit, sources, calls):
-        self.changed, self.judged = changed(edit, sources), last(edit.judged())
+        self.judged = last(edit.judged())
+        self.changed = {self.judged} if isinstance(edit, Twin) else changed(edit, sources)
         self.besides = (self.changed or set()) - {self.judged}
-        self.led_to = calls.reached(self.judged)
+        self.led_to = calls.reached(edit.alone().judged())
 
     def stands_beside(self, other):
         return (self.changed is not None and other.changed is not None
@@ -70,12 +71,13 @@ def made_together(edits, sources):
 
 def batches(edits, sources):
     """The edits in lists, each to be tried together; the sources are the crate's, by their paths in it."""
-    calls, found = Calls(sources), []
-    reaches = {edit: Reach(edit, sources, calls) for edit in edits}
-    for edit in edits:
-        place = next((it for it in found if all(reaches[edit].stands_beside(reaches[other]) for other in it)
-                      and made_together([*it, edit], sources)), None)
+    calls, found, reaches = Calls(sources), [], {}
+    for number, edit in enumerate(edits):
+        ways = [way for way in (edit, twin_of(edit, number, sources[edit.file])) if way]
+        reaches.update((way, Reach(way, sources, calls)) for way in ways)
+        place, way = next(((it, way) for it in found for way in ways if all(reaches[way].stands_beside(reaches[other]) for other in it)
+                           and made_together([*it, way], sources)), (None, edit))
         if place is None:
             found.append(place := [])
-        place.append(edit)
+        place.append(way)
     return found

@@ -1,14 +1,16 @@
 """A copy of a crate in which its edits are tried, one after another."""
 import glob
 import os
+import re
 import subprocess
 import tempfile
 import threading
 
 from batches import Calls, made_together
+from edit import Twin
 from functions import place_of
 from proved import words_of_check
-from verdict import REFUSED, judge, judge_start, written
+from verdict import BAD, REFUSED, judge, judge_start, written
 
 
 class Over(Exception):
@@ -60,10 +62,14 @@ class Bench:
         """What came of each of these edits, made together: the verdict, why, and its part of the seconds of processor."""
         sources = made_together(edits, self.sources)
         self.write(sources)
-        found, seconds = self.start([] if self.are_soon_checked(edits) else [edit for edit in edits if not edit.caller])
-        more, checking = self.check([edit for edit in edits if edit not in found], sources)
+        whole = [edit for edit in edits if not isinstance(edit, Twin)]
+        soon = whole if self.are_soon_checked(whole) else []
+        found, seconds = self.start([edit for edit in edits if not edit.caller and edit not in soon])
+        more, checking = self.check([edit for edit in whole if edit not in found], sources)
         self.write(self.sources)
-        return [(*(found | more)[edit], (seconds + checking) / len(edits)) for edit in edits]
+        found |= more
+        each = (seconds + checking) / len(edits)
+        return [(*found.get(edit, (BAD, "a copy of its function doesn't tell")), each) for edit in edits]
 
     def reached(self, edits):
         """The functions to which those of these edits lead."""
@@ -78,10 +84,26 @@ class Bench:
         """The texts of the proof files by which the functions' goals are proved that the prover's own search leaves open, by path."""
         found = {}
         for edit in edits:
-            place = [part for part in edit.judged().split("::") if part != edit.crate]
-            for path in glob.glob(os.path.join("proofs", "**", *place, "Answers.antt"), root_dir=self.folder, recursive=True):
+            for path in self.proofs_of(edit, "Answers.antt"):
                 with open(os.path.join(self.folder, path), encoding="utf-8") as file:
                     found[path] = file.read()
+        return found
+
+    def proofs_of(self, edit, name):
+        """The paths of this proof file of an edit's function."""
+        place = [part for part in edit.judged().split("::") if part != edit.crate]
+        return glob.glob(os.path.join("proofs", "**", *place, name), root_dir=self.folder, recursive=True)
+
+    def for_twins(self, twins, name):
+        """The texts of this proof file of the functions of which these edits have copies, by the paths at which those of the copies
+        would stand."""
+        found = {}
+        for twin in twins:
+            function = twin.edit.judged().split("::")[-1]
+            for path in self.proofs_of(twin.edit, name):
+                with open(os.path.join(self.folder, path), encoding="utf-8") as file:
+                    text = re.sub(rf"\.{function}\.(Given|Goals)\b", rf".{function}{twin.suffix}.\1", file.read())
+                found[f"{os.path.dirname(path)}{twin.suffix}/{name}"] = text
         return found
 
     def start(self, edits):
@@ -89,12 +111,15 @@ class Bench:
         that is there, so the functions' own ones are set aside."""
         if not edits:
             return {}, 0.0
-        answers = self.answers_of(edits)
+        twins = [edit for edit in edits if isinstance(edit, Twin)]
+        answers, of_twins = self.answers_of(edits), self.for_twins(twins, "Answers.antt")
+        loops = self.for_twins(twins, "Invariants.antt")
         for path in answers:
             os.remove(os.path.join(self.folder, path))
+        self.write(loops)
         text, seconds = self.checks.run([*self.words, *(word for edit in edits for word in ("--start", edit.function))], self.folder)
-        found = {edit: judge_start(edit, text, self.folder, answers) for edit in edits}
-        for path in sum(written(text, edits[0].crate).values(), []):
+        found = {edit: judge_start(edit, text, self.folder, answers | of_twins) for edit in edits}
+        for path in [*loops, *sum(written(text, edits[0].crate).values(), [])]:
             os.remove(os.path.join(self.folder, path))
         self.write(answers)
         return {edit: outcome for edit, outcome in found.items() if outcome}, seconds
@@ -110,7 +135,9 @@ class Bench:
 
     def write(self, sources):
         for path, text in sources.items():
-            with open(os.path.join(self.folder, path), "w", encoding="utf-8") as file:
+            path = os.path.join(self.folder, path)
+            os.makedirs(os.path.dirname(path), exist_ok=True)
+            with open(path, "w", encoding="utf-8") as file:
                 file.write(text)
 
     def try_batch(self, edits):
@@ -120,7 +147,7 @@ class Bench:
             return found
         for at, edit in enumerate(edits):
             if found[at][0] != REFUSED:
-                [(verdict, why, seconds)] = self.try_together([edit])
+                [(verdict, why, seconds)] = self.try_together([edit.alone()])
                 found[at] = verdict, why, found[at][2] + seconds
         return found
 

@@ -47,6 +47,10 @@ class Edit:
         texts = [text for _, _, text in words]
         self.file, self.pairs = texts[0], list(zip(texts[1::2], texts[2::2]))
 
+    def alone(self):
+        """The edit as it is tried with no other."""
+        return self
+
     def judged(self):
         """The function whose goal has to stay unproved."""
         return self.caller or self.function
@@ -66,3 +70,36 @@ class Edit:
                 raise Bad(f"the text doesn't stand in {self.function}, but in {name_at(source, source.index(old))}: {old.strip()}")
             source = source.replace(old, new)
         return source
+
+
+class Twin(Edit):
+    """An edit that is made in a copy of its function, which stands behind it under another name: so it is tried together with
+    others of the function."""
+
+    def __init__(self, edit, number, source):
+        function = place_of(edit.function, source)
+        turned = edit.change(source)
+        self.edit, self.crate, self.name, self.text, self.file = edit, edit.crate, edit.name, edit.text, edit.file
+        self.caller, self.suffix = None, f"_turned_{number}"
+        self.function = edit.function + self.suffix
+        name = edit.function.split("::")[-1]
+        changed = turned[function.begin : place_of(edit.function, turned).end]
+        self.copy = re.sub(rf"\bfn {name}\b", f"fn {name}{self.suffix}", changed, count=1)
+
+    def alone(self):
+        return self.edit
+
+    def change(self, source):
+        end = place_of(self.edit.function, source).end
+        return f"{source[:end]}\n{self.copy}{source[end:]}"
+
+
+def twin_of(edit, number, source):
+    """The edit in a copy of its function, or None where there can be no copy: a trait asks for the function, the edit changes other
+    text too, or another function has to refuse it."""
+    function = place_of(edit.function, source)
+    if edit.caller or not function or function.is_of_trait:
+        return None
+    if not all(function.begin <= source.find(old) < function.end for old, _ in edit.pairs):
+        return None
+    return Twin(edit, number, source)

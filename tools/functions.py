@@ -6,11 +6,13 @@ OWNER = re.compile(r"(?:pub(?:\([\w ]+\))? )?(?:unsafe )?(?:impl|trait)\b")
 
 
 class Function:
-    """A function of a source: its name, `Type::method` or `function`; whether others than its crate may call it; and the
-    offsets where it begins (its attributes), where its signature begins, where its body begins and where it ends."""
+    """A function of a source: its name, `Type::method` or `function`; whether others than its crate may call it, and whether a trait
+    asks for it; and the offsets where it begins (its attributes), where its signature begins, where its body begins and where it
+    ends."""
 
-    def __init__(self, name, is_public, begin, head):
-        self.name, self.is_public, self.begin, self.head, self.body, self.end = name, is_public, begin, head, None, None
+    def __init__(self, name, is_public, is_of_trait, begin, head):
+        self.name, self.is_public, self.is_of_trait = name, is_public, is_of_trait
+        self.begin, self.head, self.body, self.end = begin, head, None, None
 
     def lines(self, source):
         """The numbers of its first line and of its last, from 1."""
@@ -49,7 +51,8 @@ def functions(source):
         if head and now is None:
             is_method = bool(head["indent"])
             name = f"{owner_of(owner)}::{head['name']}" if is_method else head["name"]
-            now = Function(name, head["seen"] == "pub " or is_method and is_open(owner), begin, at)
+            is_of_trait = is_method and is_open(owner)
+            now = Function(name, head["seen"] == "pub " or is_of_trait, is_of_trait, begin, at)
             brace = head["indent"] + "}"
         if now is not None:
             if now.body is None and line.endswith(("{", "{}", ";")):
