@@ -1,6 +1,7 @@
 // The processor's registers as they are kept: found by their number, whatever the mode.
 ghost use Rattle.std.specs.Prelude.{◌≡◌};
-ghost use Rattle.p11_cpu.specs.Kept.Bank.{is_kernel, no_registers};
+ghost use Rattle.p11_cpu.specs.Kept.Bank.{no_registers};
+ghost use Rattle.p11_cpu.specs.ProcessorControl.{is_kernel};
 ghost use Rattle.p11_cpu.specs.Registers.{register_in, stack_pointer, with_register, with_stack_pointer};
 
 use crate::registers::Registers;
@@ -8,10 +9,9 @@ use p11_decode::Register;
 use p11_psw::Mode;
 use std::marker::Model;
 
-/// Whether a mode's stack pointer is kernel mode's.
-#[tactic(auto, unfolding(crate::specs::Kept::Bank::is_kernel))]
+/// Whether a mode is kernel mode.
 #[inline(always)]
-fn is_kernel(mode: Mode) -> bool
+pub(crate) fn is_kernel(mode: Mode) -> bool
     ensures { result ≡ is_kernel mode }
 {
     match mode {

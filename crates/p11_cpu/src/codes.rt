@@ -1,4 +1,6 @@
 //! The condition codes.
+#![tactic(auto, unfolding(crate::specs::Registers::codes_of, crate::specs::Registers::set_codes_of, p11_alu::specs::Results::logic_codes))]
+
 ghost use Rattle.std.specs.Prelude.{◌≡◌, ◌==◌, int_lt, pos};
 ghost use Rattle.p11_alu.specs.Pairs.{number_of, pair_value};
 ghost use Rattle.p11_alu.specs.Results.{logic_codes, result_with};
@@ -15,7 +17,6 @@ use std::alloc::Allocator;
 
 impl<A: Allocator> Hardware<A> {
     /// The condition codes of the status word.
-    #[tactic(auto, unfolding(crate::specs::Registers::codes_of))]
     #[inline(always)]
     pub fn codes(&self) -> Codes
         ensures { result ≡ codes_of self.now }
@@ -29,7 +30,6 @@ impl<A: Allocator> Hardware<A> {
     }
 
     /// Sets the condition codes of the status word.
-    #[tactic(auto, unfolding(crate::specs::Registers::set_codes_of))]
     #[inline(always)]
     pub fn set_codes(&mut self, codes: Codes)
         ensures { self.new ≡ set_codes_of codes self.old }
@@ -40,7 +40,6 @@ impl<A: Allocator> Hardware<A> {
     }
 
     /// Sets N and Z by a result of a size, V and C as they are handed in, and gives what is stored.
-    #[tactic(auto, unfolding(crate::specs::Registers::set_codes_of))]
     #[inline(always)]
     pub fn set_codes_for(&mut self, size: Size, done: (u16, Codes)) -> u16
         ensures state { self.new
@@ -55,7 +54,6 @@ impl<A: Allocator> Hardware<A> {
     }
 
     /// Sets N and Z by a result of a size and V as it is handed in, where C is as it was, and gives what is stored.
-    #[tactic(auto, unfolding(crate::specs::Registers::codes_of, crate::specs::Registers::set_codes_of))]
     #[inline(always)]
     pub fn set_nzv_for(&mut self, size: Size, done: (u16, Codes)) -> u16
         ensures state { self.new
@@ -83,7 +81,6 @@ impl<A: Allocator> Hardware<A> {
     }
 
     /// Sets the codes of a bitwise result, which leaves C, and gives what it stores.
-    #[tactic(auto, unfolding(crate::specs::Registers::codes_of, crate::specs::Registers::set_codes_of, p11_alu::specs::Results::logic_codes))]
     #[inline(always)]
     pub fn set_logic_codes_for(&mut self, size: Size, word: u16) -> u16
         ensures state { self.new ≡ set_codes_of (bitwise size word (codes_of self.old)).1 self.old }
@@ -95,7 +92,6 @@ impl<A: Allocator> Hardware<A> {
     }
 
     /// Sets the codes of a bitwise result, with C as it is handed in.
-    #[tactic(auto, unfolding(crate::specs::Registers::set_codes_of, p11_alu::specs::Results::logic_codes))]
     #[inline(always)]
     pub fn set_logic_codes(&mut self, size: Size, word: u16, c: bool)
         ensures { self.new ≡ set_codes_of (logic_codes (width_of size) word c) self.old }
@@ -106,7 +102,6 @@ impl<A: Allocator> Hardware<A> {
     }
 
     /// Whether N is set.
-    #[tactic(auto, unfolding(crate::specs::Registers::codes_of))]
     #[inline(always)]
     pub fn is_negative(&self) -> bool
         ensures { result ≡ (codes_of self.now).n }
@@ -115,7 +110,6 @@ impl<A: Allocator> Hardware<A> {
     }
 
     /// Whether Z is set.
-    #[tactic(auto, unfolding(crate::specs::Registers::codes_of))]
     #[inline(always)]
     pub fn is_zero(&self) -> bool
         ensures { result ≡ (codes_of self.now).z }
@@ -124,7 +118,6 @@ impl<A: Allocator> Hardware<A> {
     }
 
     /// Whether V is set.
-    #[tactic(auto, unfolding(crate::specs::Registers::codes_of))]
     #[inline(always)]
     pub fn is_overflow(&self) -> bool
         ensures { result ≡ (codes_of self.now).v }
@@ -133,7 +126,6 @@ impl<A: Allocator> Hardware<A> {
     }
 
     /// Whether C is set.
-    #[tactic(auto, unfolding(crate::specs::Registers::codes_of))]
     #[inline(always)]
     pub fn is_carry(&self) -> bool
         ensures { result ≡ (codes_of self.now).c }

@@ -1,13 +1,14 @@
 //! MUL, DIV, ASH and ASHC.
+#![tactic(auto, unfolding(crate::specs::Registers::pair_of_registers, crate::specs::Registers::set_pair_of, crate::specs::ExtendedInstructions::quotient_stored, crate::specs::Instructions::execute_of, p11_alu::specs::CountedShifts::ash_of))]
+
 ghost use Rattle.std.specs.Prelude.{◌≡◌};
-ghost use Rattle.p11_cpu.specs.ExtendedInstructions.{quotient_stored};
 ghost use Rattle.p11_cpu.specs.Instructions.{execute_of};
 ghost use Rattle.p11_cpu.specs.Registers.{odd_of, pair_of_registers, set_pair_of};
 
 use crate::hardware::Hardware;
-use crate::trap::Trap;
+use crate::trap::Done;
 use crate::turn_number::TurnNumber;
-use p11_alu::{Pair, Quotient, ash, ashc, div, mul};
+use p11_alu::{Pair, ash, ashc, div, mul};
 use p11_decode::{Op, Operand, Register, Size};
 use std::alloc::Allocator;
 
@@ -25,7 +26,6 @@ fn low_half(register: Register) -> Register
 
 impl<A: Allocator> Hardware<A> {
     /// A register and the next one, or an odd register twice.
-    #[tactic(auto, unfolding(crate::specs::Registers::pair_of_registers))]
     #[inline(always)]
     fn pair(&self, register: Register) -> Pair
         ensures { result ≡ pair_of_registers register self.now }
@@ -37,7 +37,6 @@ impl<A: Allocator> Hardware<A> {
     }
 
     /// Sets a register and the next one, or an odd register to the low half.
-    #[tactic(auto, unfolding(crate::specs::Registers::set_pair_of))]
     fn set_pair(&mut self, register: Register, pair: Pair)
         ensures { self.new ≡ set_pair_of register pair self.old }
     {
@@ -45,29 +44,9 @@ impl<A: Allocator> Hardware<A> {
         self.set_register(low_half(register), pair.low);
     }
 
-    /// Stores a quotient that fits, and its remainder.
-    #[tactic(auto, unfolding(crate::specs::ExtendedInstructions::quotient_stored))]
-    fn store_quotient(&mut self, register: Register, quotient: Quotient)
-        ensures { self.new ≡ quotient_stored register quotient self.old }
-    {
-        if quotient.fits {
-            let pair = Pair {
-                high: quotient.quotient,
-                low: quotient.remainder,
-            };
-            self.set_pair(register, pair);
-        }
-    }
-
     /// MUL.
-    #[tactic(auto, unfolding(crate::specs::Instructions::execute_of))]
     #[inline(always)]
-    pub fn mul(
-        &mut self,
-        turn: TurnNumber,
-        register: Register,
-        operand: Operand,
-    ) -> Result<(), Trap>
+    pub fn mul(&mut self, turn: TurnNumber, register: Register, operand: Operand) -> Done
         ensures { execute_of (Op.Mul register operand) turn self.old ≡ (self.new, result) }
     {
         let factor = self.value(turn, Size::Word, operand)?;
@@ -77,33 +56,27 @@ impl<A: Allocator> Hardware<A> {
         Ok(())
     }
 
-    /// DIV.
-    #[tactic(auto, unfolding(crate::specs::Instructions::execute_of))]
+    /// DIV. A quotient that fits is stored with its remainder.
     #[inline(always)]
-    pub fn div(
-        &mut self,
-        turn: TurnNumber,
-        register: Register,
-        operand: Operand,
-    ) -> Result<(), Trap>
+    pub fn div(&mut self, turn: TurnNumber, register: Register, operand: Operand) -> Done
         ensures { execute_of (Op.Div register operand) turn self.old ≡ (self.new, result) }
     {
         let divisor = self.value(turn, Size::Word, operand)?;
         let quotient = div(self.pair(register), divisor);
         self.set_codes(quotient.codes);
-        self.store_quotient(register, quotient);
+        if quotient.fits {
+            let pair = Pair {
+                high: quotient.quotient,
+                low: quotient.remainder,
+            };
+            self.set_pair(register, pair);
+        }
         Ok(())
     }
 
     /// ASH.
-    #[tactic(auto, unfolding(crate::specs::Instructions::execute_of, p11_alu::specs::CountedShifts::ash_of))]
     #[inline(always)]
-    pub fn ash(
-        &mut self,
-        turn: TurnNumber,
-        register: Register,
-        operand: Operand,
-    ) -> Result<(), Trap>
+    pub fn ash(&mut self, turn: TurnNumber, register: Register, operand: Operand) -> Done
         ensures { execute_of (Op.Ash register operand) turn self.old ≡ (self.new, result) }
     {
         let count = self.value(turn, Size::Word, operand)?;
@@ -115,12 +88,7 @@ impl<A: Allocator> Hardware<A> {
     /// ASHC.
     #[tactic(auto, unfolding(crate::specs::Instructions::execute_of, p11_alu::specs::CountedShifts::ashc_of), using(crate::proofs::SignWords::pair_again))]
     #[inline(always)]
-    pub fn ashc(
-        &mut self,
-        turn: TurnNumber,
-        register: Register,
-        operand: Operand,
-    ) -> Result<(), Trap>
+    pub fn ashc(&mut self, turn: TurnNumber, register: Register, operand: Operand) -> Done
         ensures { execute_of (Op.Ashc register operand) turn self.old ≡ (self.new, result) }
     {
         let count = self.value(turn, Size::Word, operand)?;

@@ -1,5 +1,5 @@
 //! Which part of the machine answers at a bus address.
-ghost use Rattle.std.specs.Prelude.{◌≡◌, ◌==◌, ◌<◌, true};
+ghost use Rattle.std.specs.Prelude.{◌≡◌, ◌<◌, true};
 ghost use Rattle.p11_cpu.specs.declared.part.Part.TheVariants as parts;
 ghost use Rattle.p11_cpu.specs.References.{part_at};
 
@@ -33,22 +33,6 @@ pub(crate) enum Part {
     Bus,
 }
 
-/// Whether the processor status word stands at a bus address.
-#[inline(always)]
-fn is_status(address: u32) -> bool
-    ensures { result ≡ (address == 0o777776) }
-{
-    address == STATUS_ADDRESS
-}
-
-/// Whether the stack limit register stands at a bus address.
-#[inline(always)]
-fn is_limit(address: u32) -> bool
-    ensures { result ≡ (address == 0o777774) }
-{
-    address == LIMIT_ADDRESS
-}
-
 /// Whether a bus address lies above the pages of kernel mode and below SR0: the devices' registers lie there, and none of
 /// the processor or of memory management.
 #[tactic(auto, unfolding(crate::specs::References::part_at, p11_kt11::specs::Registers::answers, p11_kt11::specs::Register::register_at, p11_kt11::specs::Register::page_from))]
@@ -70,9 +54,9 @@ impl Part {
             Part::Bus
         } else if Kt11::answers(address) {
             Part::Management
-        } else if is_status(address) {
+        } else if address == STATUS_ADDRESS {
             Part::Status
-        } else if is_limit(address) {
+        } else if address == LIMIT_ADDRESS {
             Part::StackLimit
         } else {
             Part::Bus

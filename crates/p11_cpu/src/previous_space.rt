@@ -1,18 +1,19 @@
 //! MFPI and MTPI, whose operand is in the space of the previous mode.
+#![tactic(auto, unfolding(crate::specs::PreviousSpace::read_previous_of, crate::specs::PreviousSpace::write_previous_of, crate::specs::Instructions::execute_of))]
+
 ghost use Rattle.std.specs.Prelude.{◌≡◌};
 ghost use Rattle.p11_cpu.specs.Instructions.{execute_of};
-ghost use Rattle.p11_cpu.specs.PreviousSpace.{read_previous_of, write_previous_of};
+ghost use Rattle.p11_cpu.specs.PreviousSpace.{read_previous_of};
 
 use crate::hardware::Hardware;
 use crate::operand::Place;
-use crate::trap::Trap;
+use crate::trap::{Done, Trap};
 use crate::turn_number::TurnNumber;
 use p11_decode::{Op, Operand, Register, Size};
 use std::alloc::Allocator;
 
 impl<A: Allocator> Hardware<A> {
     /// The word at a place in the previous mode.
-    #[tactic(auto, unfolding(crate::specs::PreviousSpace::read_previous_of))]
     fn read_previous(&mut self, turn: TurnNumber, place: Place) -> Result<u16, Trap>
         ensures { read_previous_of place turn self.old ≡ (self.new, result) }
     {
@@ -25,27 +26,9 @@ impl<A: Allocator> Hardware<A> {
         }
     }
 
-    /// Writes the word at a place in the previous mode.
-    #[tactic(auto, unfolding(crate::specs::PreviousSpace::write_previous_of))]
-    fn write_previous(&mut self, turn: TurnNumber, place: Place, word: u16) -> Result<(), Trap>
-        ensures { write_previous_of place word turn self.old ≡ (self.new, result) }
-    {
-        match place {
-            Place::Register(register) => {
-                self.set_previous_register(register, word);
-                Ok(())
-            }
-            Place::Memory(address) => {
-                let mode = self.previous_mode();
-                self.write_in(turn, mode, Size::Word, address, word)
-            }
-        }
-    }
-
     /// MFPI.
-    #[tactic(auto, unfolding(crate::specs::Instructions::execute_of))]
     #[inline(never)]
-    pub fn mfpi(&mut self, turn: TurnNumber, operand: Operand) -> Result<(), Trap>
+    pub fn mfpi(&mut self, turn: TurnNumber, operand: Operand) -> Done
         ensures { execute_of (Op.Mfpi operand) turn self.old ≡ (self.new, result) }
     {
         let source = self.find_place(turn, Size::Word, operand)?;
@@ -57,15 +40,22 @@ impl<A: Allocator> Hardware<A> {
     }
 
     /// MTPI.
-    #[tactic(auto, unfolding(crate::specs::Instructions::execute_of))]
     #[inline(never)]
-    pub fn mtpi(&mut self, turn: TurnNumber, operand: Operand) -> Result<(), Trap>
+    pub fn mtpi(&mut self, turn: TurnNumber, operand: Operand) -> Done
         ensures { execute_of (Op.Mtpi operand) turn self.old ≡ (self.new, result) }
     {
         let word = self.pop(turn)?;
-        let destination = self.find_place(turn, Size::Word, operand)?;
+        let place = self.find_place(turn, Size::Word, operand)?;
         self.set_logic_codes_for(Size::Word, word);
-        self.write_previous(turn, destination, word)?;
-        Ok(())
+        match place {
+            Place::Register(register) => {
+                self.set_previous_register(register, word);
+                Ok(())
+            }
+            Place::Memory(address) => {
+                let mode = self.previous_mode();
+                self.write_in(turn, mode, Size::Word, address, word)
+            }
+        }
     }
 }

@@ -1,4 +1,6 @@
 //! Branches, jumps, subroutines, SOB and MARK.
+#![tactic(auto, unfolding(crate::specs::ProgramControl::is_taken, crate::specs::Instructions::execute_of, crate::specs::ProgramControl::branched, crate::specs::ProgramControl::counted_back))]
+
 ghost use Rattle.std.specs.Prelude.{◌≡◌, ℕ, ◌==◌, Ok};
 ghost use Rattle.p11_cpu.specs.Instructions.{execute_of};
 ghost use Rattle.p11_cpu.specs.Kept.Quiet.{IsQuietTo};
@@ -6,9 +8,9 @@ ghost use Rattle.p11_cpu.specs.ProgramControl.{is_taken, branch_address, linked}
 ghost use Rattle.p11_cpu.specs.Registers.{codes_of};
 
 use crate::hardware::Hardware;
-use crate::trap::Trap;
+use crate::trap::Done;
 use crate::turn_number::TurnNumber;
-use crate::words::{minus, plus};
+use crate::words::minus;
 use p11_decode::{Condition, Count, Op, Operand, Register};
 use p11_icache::Displacement;
 use std::alloc::Allocator;
@@ -19,20 +21,11 @@ use std::alloc::Allocator;
 fn branch_target(offset: Displacement, pc: u16) -> u16
     ensures { result ≡ branch_address offset pc }
 {
-    plus(pc, offset.bytes())
-}
-
-/// Whether a word is 0.
-#[inline(always)]
-fn is_zero(word: u16) -> bool
-    ensures { result ≡ (word == 0) }
-{
-    word == 0
+    pc.wrapping_add(offset.bytes())
 }
 
 impl<A: Allocator> Hardware<A> {
     /// Whether a branch is taken. Each condition looks at its own codes alone.
-    #[tactic(auto, unfolding(crate::specs::ProgramControl::is_taken))]
     #[inline(always)]
     fn takes(&self, condition: Condition) -> bool
         ensures { result ≡ is_taken condition (codes_of self.now) }
@@ -57,7 +50,6 @@ impl<A: Allocator> Hardware<A> {
     }
 
     /// BR and the conditional branches.
-    #[tactic(auto, unfolding(crate::specs::Instructions::execute_of, crate::specs::ProgramControl::branched))]
     #[inline(always)]
     pub fn branch_on(&mut self, condition: Condition, offset: Displacement)
         ensures run { (turn : ℕ) → execute_of (Op.Branch condition offset) turn self.old ≡ (self.new, Ok tt) }
@@ -70,9 +62,8 @@ impl<A: Allocator> Hardware<A> {
     }
 
     /// JMP.
-    #[tactic(auto, unfolding(crate::specs::Instructions::execute_of))]
     #[inline(always)]
-    pub fn jmp(&mut self, turn: TurnNumber, operand: Operand) -> Result<(), Trap>
+    pub fn jmp(&mut self, turn: TurnNumber, operand: Operand) -> Done
         ensures { execute_of (Op.Jmp operand) turn self.old ≡ (self.new, result) }
     {
         let target = self.find_target(turn, operand)?;
@@ -82,7 +73,7 @@ impl<A: Allocator> Hardware<A> {
 
     /// What JSR does once it has the subroutine's address, on either path.
     #[inline(always)]
-    fn link(&mut self, turn: TurnNumber, register: Register, target: u16) -> Result<(), Trap>
+    fn link(&mut self, turn: TurnNumber, register: Register, target: u16) -> Done
         ensures { linked register target turn self.old ≡ (self.new, result) }
     {
         self.push_register(turn, register)?;
@@ -93,14 +84,8 @@ impl<A: Allocator> Hardware<A> {
     }
 
     /// JSR. PC as the link register has a path of its own, as in `step_up`.
-    #[tactic(auto, unfolding(crate::specs::Instructions::execute_of))]
     #[inline(always)]
-    pub fn jsr(
-        &mut self,
-        turn: TurnNumber,
-        register: Register,
-        operand: Operand,
-    ) -> Result<(), Trap>
+    pub fn jsr(&mut self, turn: TurnNumber, register: Register, operand: Operand) -> Done
         ensures { execute_of (Op.Jsr register operand) turn self.old ≡ (self.new, result) }
     {
         let target = self.find_target(turn, operand)?;
@@ -111,9 +96,8 @@ impl<A: Allocator> Hardware<A> {
     }
 
     /// RTS, on either path.
-    #[tactic(auto, unfolding(crate::specs::Instructions::execute_of))]
     #[inline(always)]
-    fn rts_by(&mut self, turn: TurnNumber, register: Register) -> Result<(), Trap>
+    fn rts_by(&mut self, turn: TurnNumber, register: Register) -> Done
         ensures { execute_of (Op.Rts register) turn self.old ≡ (self.new, result) }
     {
         let link = self.register(register);
@@ -125,7 +109,7 @@ impl<A: Allocator> Hardware<A> {
 
     /// RTS. PC as the link register has a path of its own, as in `step_up`.
     #[inline(always)]
-    pub fn rts(&mut self, turn: TurnNumber, register: Register) -> Result<(), Trap>
+    pub fn rts(&mut self, turn: TurnNumber, register: Register) -> Done
         ensures { execute_of (Op.Rts register) turn self.old ≡ (self.new, result) }
     {
         match register {
@@ -135,13 +119,12 @@ impl<A: Allocator> Hardware<A> {
     }
 
     /// MARK.
-    #[tactic(auto, unfolding(crate::specs::Instructions::execute_of))]
     #[inline(never)]
-    pub fn mark(&mut self, turn: TurnNumber, count: Count) -> Result<(), Trap>
+    pub fn mark(&mut self, turn: TurnNumber, count: Count) -> Done
         ensures { execute_of (Op.Mark count) turn self.old ≡ (self.new, result) }
     {
         let pc = self.register(Register::Pc);
-        self.set_register(Register::Sp, plus(pc, 2 * u16::from(count.words())));
+        self.set_register(Register::Sp, pc.wrapping_add(2 * u16::from(count.words())));
         let frame = self.register(Register::R5);
         self.set_register(Register::Pc, frame);
         let word = self.pop(turn)?;
@@ -150,14 +133,13 @@ impl<A: Allocator> Hardware<A> {
     }
 
     /// SOB.
-    #[tactic(auto, unfolding(crate::specs::Instructions::execute_of, crate::specs::ProgramControl::counted_back))]
     #[inline(always)]
     pub fn sob(&mut self, register: Register, count: Count)
         ensures run { (turn : ℕ) → execute_of (Op.Sob register count) turn self.old ≡ (self.new, Ok tt) }
         ensures quiet { (last : ℕ) → IsQuietTo last self.old → IsQuietTo last self.new }
     {
         self.set_register(register, minus(self.register(register), 1));
-        if !is_zero(self.register(register)) {
+        if self.register(register) != 0 {
             let back = 2 * u16::from(count.words());
             self.set_register(Register::Pc, minus(self.register(Register::Pc), back));
         }

@@ -9,3 +9,6 @@ pub(crate) enum Trap {
     /// A step of the kernel's stack pointer was into the red zone: the fatal service follows.
     RedZone,
 }
+
+/// How an instruction, or a step of one, ended: done, or at a trap.
+pub(crate) type Done = Result<(), Trap>;

@@ -6,7 +6,7 @@ use std::marker::Model;
 /// The number of a turn, 2^62 at most. A contract sees it as that number.
 #[derive(Clone, Copy)]
 pub(crate) struct TurnNumber {
-    number: u64,
+    pub number: u64,
 }
 
 impl Model for TurnNumber {
@@ -22,13 +22,6 @@ impl Model for TurnNumber {
 }
 
 impl TurnNumber {
-    /// The count of the turns of a new machine.
-    pub fn zero() -> Self
-        ensures { result ≡ 0 }
-    {
-        TurnNumber { number: 0 }
-    }
-
     /// The next number.
     pub fn next(self) -> Self
         requires { self < 2 ^ 62 }
@@ -80,13 +73,5 @@ impl TurnNumber {
         } else {
             most
         }
-    }
-
-    /// The number itself.
-    pub fn number(self) -> u64
-        ensures value { result ≡ self }
-        ensures bound { result ≤ 2 ^ 62 }
-    {
-        self.number
     }
 }

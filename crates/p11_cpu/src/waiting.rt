@@ -30,7 +30,7 @@ impl<A: Allocator> Hardware<A> {
     {
         the_next_due_turn_is_the_first_in_which_a_device_acts();
         a_turn_in_which_no_device_acts_changes_nothing();
-        match self.bus.unibus.next_due(turns.number()) {
+        match self.bus.unibus.next_due(turns.number) {
             Some(due) => turns.count_before(due, most),
             None => most,
         }

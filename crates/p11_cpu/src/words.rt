@@ -1,7 +1,9 @@
 //! Words and bytes: sums, differences, and what a size makes of them.
+#![tactic(auto, unfolding(crate::specs::Words::minus, crate::specs::Words::complement, crate::specs::Words::sign_extended))]
+
 ghost use Rattle.std.specs.Prelude.{◌≡◌};
 ghost use Rattle.p11_alu.specs.Numbers.{val};
-ghost use Rattle.p11_cpu.specs.Words.{width_of, plus, minus, complement, sign_extended};
+ghost use Rattle.p11_cpu.specs.Words.{width_of, minus, complement, sign_extended};
 
 use p11_alu::Size as Width;
 use p11_decode::Size;
@@ -26,16 +28,7 @@ pub(crate) fn width(size: Size) -> Width
     }
 }
 
-/// The sum of two words, without its carry.
-#[inline(always)]
-pub(crate) fn plus(word: u16, more: u16) -> u16
-    ensures { result ≡ plus word more }
-{
-    word.wrapping_add(more)
-}
-
 /// The difference of two words, without its borrow.
-#[tactic(auto, unfolding(crate::specs::Words::minus))]
 #[inline(always)]
 pub(crate) fn minus(word: u16, less: u16) -> u16
     ensures { result ≡ minus word less }
@@ -55,7 +48,6 @@ pub(crate) fn cut(size: Size, word: u16) -> u16
 }
 
 /// A word or a byte with every bit turned.
-#[tactic(auto, unfolding(crate::specs::Words::complement))]
 #[inline(always)]
 pub(crate) fn complement(size: Size, number: u16) -> u16
     ensures { result ≡ complement size number }
@@ -68,7 +60,6 @@ pub(crate) fn complement(size: Size, number: u16) -> u16
 
 /// The word of the same signed value: a byte with its sign in bits 15 to 8. That is 128 less than the byte with its
 /// highest bit turned, which the compiler makes one instruction of.
-#[tactic(auto, unfolding(crate::specs::Words::sign_extended))]
 #[inline(always)]
 pub(crate) fn extended(size: Size, value: u16) -> u16
     ensures { result ≡ sign_extended size value }
