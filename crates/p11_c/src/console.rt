@@ -3,20 +3,20 @@ ghost use Rattle.std.specs.Prelude.{◌≡◌, ◌+◌, ◌++◌, ⊤, min, true
 ghost use Rattle.p11_line_editor.specs.Completion.{word_of};
 ghost use Rattle.p11_line_editor.specs.History.{remembered};
 ghost use Rattle.p11_console.specs.Files.{Gives, Names, opening, wanted, image_in, may_replace, is_pack};
-ghost use Rattle.p11_console.specs.Said.{Says};
+ghost use Rattle.p11_dialogue.specs.Said.{Says};
 ghost use Rattle.p11_console.specs.Steps.{status_of};
-ghost use Rattle.p11_console.specs.Typing.{rested};
+ghost use Rattle.p11_dialogue.specs.Typing.{rested};
 ghost use Rattle.p11_handles.specs.Calls.{lent};
 ghost use Rattle.p11_handles.specs.HeldCalls.{HandsText};
 ghost use Rattle.p11_handles.specs.Registers.{told_registers};
-ghost use Rattle.p11_handles.specs.SeatCalls.{OnConsole, OpensConsole, DoneOr, TakesFront, HandsFront, HandsWanted, HandsDevices, wished};
-ghost use Rattle.p11_handles.specs.SeatCalls.{StepsTelling, TakesBy, error_of, number_of_bool};
+ghost use Rattle.p11_handles.specs.ConsoleCalls.{OnConsole, OpensConsole, DoneOr, TakesFront, HandsFront, HandsWanted, HandsDevices, wished};
+ghost use Rattle.p11_handles.specs.ConsoleCalls.{StepsTelling, TakesBy, error_of, number_of_bool};
 ghost use Rattle.p11_handles.specs.Statuses.{number_of_status};
 ghost use Rattle.p11_handles.specs.declared.status.Status.{Status};
 
 use p11_handles::{
-    ConsoleHandle, Registers, Status, hand_devices, hand_front, hand_text, hand_wanted, new_seat,
-    number_of_bool, number_of_want, tell_registers,
+    ConsoleHandle, Registers, Status, hand_devices, hand_front, hand_text, hand_wanted,
+    new_console, number_of_bool, number_of_want, tell_registers,
 };
 use std::alloc::Global;
 
@@ -45,9 +45,9 @@ pub extern "C" fn p11_console_new(
     ensures { (status : Status) × (result ≡ number_of_status status)
         × OpensConsole (wished kwords lines manner strict saveless talk) status handle.old.slot.held handle.new.slot.held }
 {
-    match new_seat(alloc, kwords, lines, manner, strict, saveless, talk) {
-        Ok(seat) => {
-            handle.hold(alloc, seat);
+    match new_console(alloc, kwords, lines, manner, strict, saveless, talk) {
+        Ok(console) => {
+            handle.hold(alloc, console);
             Status::Done.number()
         }
         Err(status) => status.number(),
@@ -62,14 +62,14 @@ pub extern "C" fn p11_console_new(
 /// The number of a `Status`: `NoMemory`, and nothing changes.
 #[unsafe(no_mangle)]
 pub extern "C" fn p11_console_open(alloc: Global, handle: &mut ConsoleHandle, name: &[u8]) -> i32
-    ensures { OnConsole (λ c status c'. DoneOr status (c' ≡ record c { way = opening name.now c.way }) (c' ≡ c)) ⊤
+    ensures { OnConsole (λ c status c'. DoneOr status (c' ≡ record c { activity = opening name.now c.activity }) (c' ≡ c)) ⊤
         handle.old.slot.held result handle.new.slot.held }
 {
-    let Some(mut seat) = handle.take(alloc) else {
+    let Some(mut console) = handle.take(alloc) else {
         return Status::NoMachine.number();
     };
-    let status = seat.begin_with(alloc, name);
-    handle.put(seat);
+    let status = console.begin_with(alloc, name);
+    handle.put(console);
     status.number()
 }
 
@@ -88,11 +88,11 @@ pub extern "C" fn p11_console_remember(
         (c' ≡ record c { typist = record c.typist { history = remembered line.now c.typist.history } }) (c' ≡ c)) ⊤
         handle.old.slot.held result handle.new.slot.held }
 {
-    let Some(mut seat) = handle.take(alloc) else {
+    let Some(mut console) = handle.take(alloc) else {
         return Status::NoMachine.number();
     };
-    let status = seat.remember(alloc, line);
-    handle.put(seat);
+    let status = console.remember(alloc, line);
+    handle.put(console);
     status.number()
 }
 
@@ -106,11 +106,11 @@ pub extern "C" fn p11_console_keys(alloc: Global, handle: &mut ConsoleHandle, by
     ensures { OnConsole (λ c status c'. DoneOr status (c' ≡ record c { waiting = c.waiting ++ bytes.now }) (c' ≡ c)) ⊤
         handle.old.slot.held result handle.new.slot.held }
 {
-    let Some(mut seat) = handle.take(alloc) else {
+    let Some(mut console) = handle.take(alloc) else {
         return Status::NoMachine.number();
     };
-    let status = seat.keys(bytes);
-    handle.put(seat);
+    let status = console.keys(bytes);
+    handle.put(console);
     status.number()
 }
 
@@ -124,11 +124,11 @@ pub extern "C" fn p11_console_closed(alloc: Global, handle: &mut ConsoleHandle) 
     ensures { OnConsole (λ c status c'. (status ≡ Status.Done) × (c' ≡ record c { is_over = true })) ⊤
         handle.old.slot.held result handle.new.slot.held }
 {
-    let Some(mut seat) = handle.take(alloc) else {
+    let Some(mut console) = handle.take(alloc) else {
         return Status::NoMachine.number();
     };
-    seat.closed();
-    handle.put(seat);
+    console.closed();
+    handle.put(console);
     Status::Done.number()
 }
 
@@ -142,11 +142,11 @@ pub extern "C" fn p11_console_paused(alloc: Global, handle: &mut ConsoleHandle) 
     ensures { OnConsole (λ c status c'. (status ≡ Status.Done) × (c' ≡ record c { typist = rested c.typist })) ⊤
         handle.old.slot.held result handle.new.slot.held }
 {
-    let Some(mut seat) = handle.take(alloc) else {
+    let Some(mut console) = handle.take(alloc) else {
         return Status::NoMachine.number();
     };
-    seat.paused();
-    handle.put(seat);
+    console.paused();
+    handle.put(console);
     Status::Done.number()
 }
 
@@ -160,11 +160,11 @@ pub extern "C" fn p11_console_ticked(alloc: Global, handle: &mut ConsoleHandle) 
     ensures { OnConsole (λ c status c'. (status ≡ Status.Done) × (c' ≡ record c { ticks = min (c.ticks + 1) 4294967295 })) ⊤
         handle.old.slot.held result handle.new.slot.held }
 {
-    let Some(mut seat) = handle.take(alloc) else {
+    let Some(mut console) = handle.take(alloc) else {
         return Status::NoMachine.number();
     };
-    seat.ticked();
-    handle.put(seat);
+    console.ticked();
+    handle.put(console);
     Status::Done.number()
 }
 
@@ -182,11 +182,11 @@ pub extern "C" fn p11_console_resized(
     ensures { OnConsole (λ c status c'. (status ≡ Status.Done) × (c' ≡ c)) ⊤
         handle.old.slot.held result handle.new.slot.held }
 {
-    let Some(mut seat) = handle.take(alloc) else {
+    let Some(mut console) = handle.take(alloc) else {
         return Status::NoMachine.number();
     };
-    seat.resized(columns);
-    handle.put(seat);
+    console.resized(columns);
+    handle.put(console);
     Status::Done.number()
 }
 
@@ -201,11 +201,11 @@ pub extern "C" fn p11_console_redrawn(alloc: Global, handle: &mut ConsoleHandle)
         × (Says c.screen c'.screen × (c' ≡ record c { screen = c'.screen }))) ⊤
         handle.old.slot.held result handle.new.slot.held }
 {
-    let Some(mut seat) = handle.take(alloc) else {
+    let Some(mut console) = handle.take(alloc) else {
         return Status::NoMachine.number();
     };
-    seat.redrawn();
-    handle.put(seat);
+    console.redrawn();
+    handle.put(console);
     Status::Done.number()
 }
 
@@ -229,12 +229,12 @@ pub extern "C" fn p11_console_step(
     ensures { OnConsole (λ c status c'. (status ≡ Status.Done) × StepsTelling turns c want.new c') (want.new ≡ want.old)
         handle.old.slot.held result handle.new.slot.held }
 {
-    let Some(mut seat) = handle.take(alloc) else {
+    let Some(mut console) = handle.take(alloc) else {
         return Status::NoMachine.number();
     };
-    let wanted = seat.step(alloc, turns);
+    let wanted = console.step(alloc, turns);
     *want = number_of_want(wanted);
-    handle.put(seat);
+    handle.put(console);
     Status::Done.number()
 }
 
@@ -255,11 +255,11 @@ pub extern "C" fn p11_console_screen(
         × HandsFront c.screen (lent bytes.old bytes_length.old) (lent bytes.new bytes_length.new)) (lent bytes.new bytes_length.new ≡ lent bytes.old bytes_length.old)
         handle.old.slot.held result handle.new.slot.held }
 {
-    let Some(seat) = handle.take(alloc) else {
+    let Some(console) = handle.take(alloc) else {
         return Status::NoMachine.number();
     };
-    hand_front(seat.screen(), bytes, bytes_length);
-    handle.put(seat);
+    hand_front(console.screen(), bytes, bytes_length);
+    handle.put(console);
     Status::Done.number()
 }
 
@@ -274,11 +274,11 @@ pub extern "C" fn p11_console_shown(alloc: Global, handle: &mut ConsoleHandle, c
         (c' ≡ record c { screen = drop count c.screen }) (c' ≡ c)) ⊤
         handle.old.slot.held result handle.new.slot.held }
 {
-    let Some(mut seat) = handle.take(alloc) else {
+    let Some(mut console) = handle.take(alloc) else {
         return Status::NoMachine.number();
     };
-    let status = seat.shown(count);
-    handle.put(seat);
+    let status = console.shown(count);
+    handle.put(console);
     status.number()
 }
 
@@ -299,11 +299,11 @@ pub extern "C" fn p11_console_record(
         × HandsFront c.journal (lent bytes.old bytes_length.old) (lent bytes.new bytes_length.new)) (lent bytes.new bytes_length.new ≡ lent bytes.old bytes_length.old)
         handle.old.slot.held result handle.new.slot.held }
 {
-    let Some(seat) = handle.take(alloc) else {
+    let Some(console) = handle.take(alloc) else {
         return Status::NoMachine.number();
     };
-    hand_front(seat.journal(), bytes, bytes_length);
-    handle.put(seat);
+    hand_front(console.journal(), bytes, bytes_length);
+    handle.put(console);
     Status::Done.number()
 }
 
@@ -322,11 +322,11 @@ pub extern "C" fn p11_console_recorded(
         (c' ≡ record c { journal = drop count c.journal }) (c' ≡ c)) ⊤
         handle.old.slot.held result handle.new.slot.held }
 {
-    let Some(mut seat) = handle.take(alloc) else {
+    let Some(mut console) = handle.take(alloc) else {
         return Status::NoMachine.number();
     };
-    let status = seat.recorded(count);
-    handle.put(seat);
+    let status = console.recorded(count);
+    handle.put(console);
     status.number()
 }
 
@@ -347,11 +347,11 @@ pub extern "C" fn p11_console_past(
         × HandsFront c.past (lent bytes.old bytes_length.old) (lent bytes.new bytes_length.new)) (lent bytes.new bytes_length.new ≡ lent bytes.old bytes_length.old)
         handle.old.slot.held result handle.new.slot.held }
 {
-    let Some(seat) = handle.take(alloc) else {
+    let Some(console) = handle.take(alloc) else {
         return Status::NoMachine.number();
     };
-    hand_front(seat.past(), bytes, bytes_length);
-    handle.put(seat);
+    hand_front(console.past(), bytes, bytes_length);
+    handle.put(console);
     Status::Done.number()
 }
 
@@ -366,11 +366,11 @@ pub extern "C" fn p11_console_kept(alloc: Global, handle: &mut ConsoleHandle, co
         (c' ≡ record c { past = drop count c.past }) (c' ≡ c)) ⊤
         handle.old.slot.held result handle.new.slot.held }
 {
-    let Some(mut seat) = handle.take(alloc) else {
+    let Some(mut console) = handle.take(alloc) else {
         return Status::NoMachine.number();
     };
-    let status = seat.kept(count);
-    handle.put(seat);
+    let status = console.kept(count);
+    handle.put(console);
     status.number()
 }
 
@@ -390,11 +390,11 @@ pub extern "C" fn p11_console_errors(
         (lent bytes.old bytes_length.old) (lent bytes.new bytes_length.new))) (lent bytes.new bytes_length.new ≡ lent bytes.old bytes_length.old)
         handle.old.slot.held result handle.new.slot.held }
 {
-    let Some(seat) = handle.take(alloc) else {
+    let Some(console) = handle.take(alloc) else {
         return Status::NoMachine.number();
     };
-    let status = hand_text(seat.errors(), bytes, bytes_length);
-    handle.put(seat);
+    let status = hand_text(console.errors(), bytes, bytes_length);
+    handle.put(console);
     status.number()
 }
 
@@ -408,11 +408,11 @@ pub extern "C" fn p11_console_told(alloc: Global, handle: &mut ConsoleHandle) ->
     ensures { OnConsole (λ c status c'. (status ≡ Status.Done) × (c' ≡ c)) ⊤
         handle.old.slot.held result handle.new.slot.held }
 {
-    let Some(mut seat) = handle.take(alloc) else {
+    let Some(mut console) = handle.take(alloc) else {
         return Status::NoMachine.number();
     };
-    seat.told();
-    handle.put(seat);
+    console.told();
+    handle.put(console);
     Status::Done.number()
 }
 
@@ -429,15 +429,15 @@ pub extern "C" fn p11_console_name(
     bytes: &mut [u8],
     bytes_length: &mut usize,
 ) -> i32
-    ensures { OnConsole (λ c status c'. (c' ≡ c) × HandsWanted status (wanted c.way)
+    ensures { OnConsole (λ c status c'. (c' ≡ c) × HandsWanted status (wanted c.activity)
         (lent bytes.old bytes_length.old) (lent bytes.new bytes_length.new)) (lent bytes.new bytes_length.new ≡ lent bytes.old bytes_length.old)
         handle.old.slot.held result handle.new.slot.held }
 {
-    let Some(seat) = handle.take(alloc) else {
+    let Some(console) = handle.take(alloc) else {
         return Status::NoMachine.number();
     };
-    let status = hand_wanted(seat.name(), bytes, bytes_length);
-    handle.put(seat);
+    let status = hand_wanted(console.name(), bytes, bytes_length);
+    handle.put(console);
     status.number()
 }
 
@@ -454,15 +454,15 @@ pub extern "C" fn p11_console_image(
     bytes: &mut [u8],
     bytes_length: &mut usize,
 ) -> i32
-    ensures { OnConsole (λ c status c'. (c' ≡ c) × HandsWanted status (image_in c.way)
+    ensures { OnConsole (λ c status c'. (c' ≡ c) × HandsWanted status (image_in c.activity)
         (lent bytes.old bytes_length.old) (lent bytes.new bytes_length.new)) (lent bytes.new bytes_length.new ≡ lent bytes.old bytes_length.old)
         handle.old.slot.held result handle.new.slot.held }
 {
-    let Some(seat) = handle.take(alloc) else {
+    let Some(console) = handle.take(alloc) else {
         return Status::NoMachine.number();
     };
-    let status = hand_wanted(seat.image(), bytes, bytes_length);
-    handle.put(seat);
+    let status = hand_wanted(console.image(), bytes, bytes_length);
+    handle.put(console);
     status.number()
 }
 
@@ -482,11 +482,11 @@ pub extern "C" fn p11_console_front(
         (lent bytes.old bytes_length.old) (lent bytes.new bytes_length.new)) (lent bytes.new bytes_length.new ≡ lent bytes.old bytes_length.old)
         handle.old.slot.held result handle.new.slot.held }
 {
-    let Some(seat) = handle.take(alloc) else {
+    let Some(console) = handle.take(alloc) else {
         return Status::NoMachine.number();
     };
-    let status = hand_text(seat.front(), bytes, bytes_length);
-    handle.put(seat);
+    let status = hand_text(console.front(), bytes, bytes_length);
+    handle.put(console);
     status.number()
 }
 
@@ -504,15 +504,15 @@ pub extern "C" fn p11_console_request(
     pack: &mut u32,
 ) -> i32
     ensures { OnConsole (λ c status c'. (status ≡ Status.Done) × (c' ≡ c)
-        × (replace.new ≡ number_of_bool (may_replace c.way)) × (pack.new ≡ number_of_bool (is_pack c.way))) ((replace.new ≡ replace.old) × (pack.new ≡ pack.old))
+        × (replace.new ≡ number_of_bool (may_replace c.activity)) × (pack.new ≡ number_of_bool (is_pack c.activity))) ((replace.new ≡ replace.old) × (pack.new ≡ pack.old))
         handle.old.slot.held result handle.new.slot.held }
 {
-    let Some(seat) = handle.take(alloc) else {
+    let Some(console) = handle.take(alloc) else {
         return Status::NoMachine.number();
     };
-    *replace = number_of_bool(seat.may_replace());
-    *pack = number_of_bool(seat.is_pack());
-    handle.put(seat);
+    *replace = number_of_bool(console.may_replace());
+    *pack = number_of_bool(console.is_pack());
+    handle.put(console);
     Status::Done.number()
 }
 
@@ -527,14 +527,14 @@ pub extern "C" fn p11_console_fetched(
     handle: &mut ConsoleHandle,
     bytes: &[u8],
 ) -> i32
-    ensures { OnConsole (λ c status c'. DoneOr status (Gives (Ok bytes.now) c.way c c') (c' ≡ c)) ⊤
+    ensures { OnConsole (λ c status c'. DoneOr status (Gives (Ok bytes.now) c.activity c c') (c' ≡ c)) ⊤
         handle.old.slot.held result handle.new.slot.held }
 {
-    let Some(mut seat) = handle.take(alloc) else {
+    let Some(mut console) = handle.take(alloc) else {
         return Status::NoMachine.number();
     };
-    let status = seat.fetched(alloc, bytes);
-    handle.put(seat);
+    let status = console.fetched(alloc, bytes);
+    handle.put(console);
     status.number()
 }
 
@@ -546,14 +546,14 @@ pub extern "C" fn p11_console_fetched(
 /// The number of a `Status`.
 #[unsafe(no_mangle)]
 pub extern "C" fn p11_console_missed(alloc: Global, handle: &mut ConsoleHandle, trouble: u32) -> i32
-    ensures { OnConsole (λ c status c'. (status ≡ Status.Done) × Gives (Err (error_of trouble)) c.way c c') ⊤
+    ensures { OnConsole (λ c status c'. (status ≡ Status.Done) × Gives (Err (error_of trouble)) c.activity c c') ⊤
         handle.old.slot.held result handle.new.slot.held }
 {
-    let Some(mut seat) = handle.take(alloc) else {
+    let Some(mut console) = handle.take(alloc) else {
         return Status::NoMachine.number();
     };
-    seat.missed(alloc, trouble);
-    handle.put(seat);
+    console.missed(alloc, trouble);
+    handle.put(console);
     Status::Done.number()
 }
 
@@ -568,11 +568,11 @@ pub extern "C" fn p11_console_put(alloc: Global, handle: &mut ConsoleHandle, tro
     ensures { OnConsole (λ c status c'. (status ≡ Status.Done) × TakesBy trouble c c') ⊤
         handle.old.slot.held result handle.new.slot.held }
 {
-    let Some(mut seat) = handle.take(alloc) else {
+    let Some(mut console) = handle.take(alloc) else {
         return Status::NoMachine.number();
     };
-    seat.written(alloc, trouble);
-    handle.put(seat);
+    console.written(alloc, trouble);
+    handle.put(console);
     Status::Done.number()
 }
 
@@ -584,14 +584,14 @@ pub extern "C" fn p11_console_put(alloc: Global, handle: &mut ConsoleHandle, tro
 /// The number of a `Status`: `NoMemory`, and nothing changes.
 #[unsafe(no_mangle)]
 pub extern "C" fn p11_console_names(alloc: Global, handle: &mut ConsoleHandle, names: &[u8]) -> i32
-    ensures { OnConsole (λ c status c'. DoneOr status (Names c.way c c') (c' ≡ c)) ⊤
+    ensures { OnConsole (λ c status c'. DoneOr status (Names c.activity c c') (c' ≡ c)) ⊤
         handle.old.slot.held result handle.new.slot.held }
 {
-    let Some(mut seat) = handle.take(alloc) else {
+    let Some(mut console) = handle.take(alloc) else {
         return Status::NoMachine.number();
     };
-    let status = seat.names(alloc, names);
-    handle.put(seat);
+    let status = console.names(alloc, names);
+    handle.put(console);
     status.number()
 }
 
@@ -609,11 +609,11 @@ pub extern "C" fn p11_console_status(
     ensures { OnConsole (λ c status c'. (status ≡ Status.Done) × (c' ≡ c) × (exit.new ≡ status_of c)) (exit.new ≡ exit.old)
         handle.old.slot.held result handle.new.slot.held }
 {
-    let Some(seat) = handle.take(alloc) else {
+    let Some(console) = handle.take(alloc) else {
         return Status::NoMachine.number();
     };
-    *exit = seat.status();
-    handle.put(seat);
+    *exit = console.status();
+    handle.put(console);
     Status::Done.number()
 }
 
@@ -631,11 +631,11 @@ pub extern "C" fn p11_console_regs(
     ensures { OnConsole (λ c status c'. (status ≡ Status.Done) × (c' ≡ c) × (regs.new ≡ told_registers c.machine))
         (regs.new ≡ regs.old) handle.old.slot.held result handle.new.slot.held }
 {
-    let Some(seat) = handle.take(alloc) else {
+    let Some(console) = handle.take(alloc) else {
         return Status::NoMachine.number();
     };
-    *regs = tell_registers(seat.panel());
-    handle.put(seat);
+    *regs = tell_registers(console.panel());
+    handle.put(console);
     Status::Done.number()
 }
 
@@ -657,11 +657,11 @@ pub extern "C" fn p11_console_devices(
         (lent text.old text_length.old) (lent text.new text_length.new)) (lent text.new text_length.new ≡ lent text.old text_length.old)
         handle.old.slot.held result handle.new.slot.held }
 {
-    let Some(seat) = handle.take(alloc) else {
+    let Some(console) = handle.take(alloc) else {
         return Status::NoMachine.number();
     };
-    let status = hand_devices(alloc, seat.panel(), text, text_length);
-    handle.put(seat);
+    let status = hand_devices(alloc, console.panel(), text, text_length);
+    handle.put(console);
     status.number()
 }
 

@@ -17,7 +17,7 @@ mod console;
 
 use p11_handles::{
     Handle, Registers, Run, Status, hand_file, hand_files, hand_out, hand_text, hand_typed,
-    new_desk, play, play_typed,
+    new_machine, play, play_typed,
 };
 use std::alloc::Global;
 
@@ -101,9 +101,9 @@ pub extern "C" fn p11_new(
     ensures { (status : Status) × (result ≡ number_of_status status)
         × Opens kwords lines files.now status handle.old.slot.held handle.new.slot.held }
 {
-    match new_desk(alloc, kwords, lines, files) {
-        Ok(desk) => {
-            handle.hold(alloc, desk);
+    match new_machine(alloc, kwords, lines, files) {
+        Ok(machine) => {
+            handle.hold(alloc, machine);
             Status::Done.number()
         }
         Err(status) => status.number(),
@@ -121,11 +121,11 @@ pub extern "C" fn p11_line(alloc: Global, handle: &mut Handle, line: &[u8]) -> i
     ensures { OnHeld (λ kept status kept'. LinesEnd Global line.now status kept kept') ⊤
         handle.old.slot.held result handle.new.slot.held }
 {
-    let Some(mut desk) = handle.take(alloc) else {
+    let Some(mut machine) = handle.take(alloc) else {
         return Status::NoMachine.number();
     };
-    let status = desk.play(alloc, line);
-    handle.put(desk);
+    let status = machine.play(alloc, line);
+    handle.put(machine);
     status.number()
 }
 
@@ -149,11 +149,11 @@ pub extern "C" fn p11_run(
     ensures { OnHeld (λ kept status kept'. RunEnds Global (nat_lt 0 until_idle) turns status kept run.old kept' run.new)
         (run.new ≡ run.old) handle.old.slot.held result handle.new.slot.held }
 {
-    let Some(mut desk) = handle.take(alloc) else {
+    let Some(mut machine) = handle.take(alloc) else {
         return Status::NoMachine.number();
     };
-    let status = desk.run(alloc, turns, until_idle > 0, run);
-    handle.put(desk);
+    let status = machine.run(alloc, turns, until_idle > 0, run);
+    handle.put(machine);
     status.number()
 }
 
@@ -169,11 +169,11 @@ pub extern "C" fn p11_put_file(alloc: Global, handle: &mut Handle, name: &[u8], 
     ensures { OnHeld (λ kept status kept'. PutsFile name.now bytes.now status kept kept') ⊤
         handle.old.slot.held result handle.new.slot.held }
 {
-    let Some(mut desk) = handle.take(alloc) else {
+    let Some(mut machine) = handle.take(alloc) else {
         return Status::NoMachine.number();
     };
-    let status = desk.put_file(alloc, name, bytes);
-    handle.put(desk);
+    let status = machine.put_file(alloc, name, bytes);
+    handle.put(machine);
     status.number()
 }
 
@@ -196,11 +196,11 @@ pub extern "C" fn p11_file(
         (lent bytes.new bytes_length.new ≡ lent bytes.old bytes_length.old)
         handle.old.slot.held result handle.new.slot.held }
 {
-    let Some(desk) = handle.take(alloc) else {
+    let Some(machine) = handle.take(alloc) else {
         return Status::NoMachine.number();
     };
-    let status = hand_file(&desk, name, bytes, bytes_length);
-    handle.put(desk);
+    let status = hand_file(&machine, name, bytes, bytes_length);
+    handle.put(machine);
     status.number()
 }
 
@@ -214,11 +214,11 @@ pub extern "C" fn p11_forget(alloc: Global, handle: &mut Handle, name: &[u8]) ->
     ensures { OnHeld (λ kept status kept'. ForgetsFile name.now status kept kept') ⊤
         handle.old.slot.held result handle.new.slot.held }
 {
-    let Some(mut desk) = handle.take(alloc) else {
+    let Some(mut machine) = handle.take(alloc) else {
         return Status::NoMachine.number();
     };
-    let status = desk.forget_file(name);
-    handle.put(desk);
+    let status = machine.forget_file(name);
+    handle.put(machine);
     status.number()
 }
 
@@ -239,11 +239,11 @@ pub extern "C" fn p11_answer(
         (lent answer.new answer_length.new ≡ lent answer.old answer_length.old)
         handle.old.slot.held result handle.new.slot.held }
 {
-    let Some(desk) = handle.take(alloc) else {
+    let Some(machine) = handle.take(alloc) else {
         return Status::NoMachine.number();
     };
-    let status = hand_text(desk.answer(), answer, answer_length);
-    handle.put(desk);
+    let status = hand_text(machine.answer(), answer, answer_length);
+    handle.put(machine);
     status.number()
 }
 
@@ -264,11 +264,11 @@ pub extern "C" fn p11_typed_text(
         (lent typed.new typed_length.new ≡ lent typed.old typed_length.old)
         handle.old.slot.held result handle.new.slot.held }
 {
-    let Some(desk) = handle.take(alloc) else {
+    let Some(machine) = handle.take(alloc) else {
         return Status::NoMachine.number();
     };
-    let status = hand_typed(alloc, desk.answer(), typed, typed_length);
-    handle.put(desk);
+    let status = hand_typed(alloc, machine.answer(), typed, typed_length);
+    handle.put(machine);
     status.number()
 }
 
@@ -283,11 +283,11 @@ pub extern "C" fn p11_regs(alloc: Global, handle: &mut Handle, regs: &mut Regist
         × (regs.new ≡ told_registers kept.machine))
         (regs.new ≡ regs.old) handle.old.slot.held result handle.new.slot.held }
 {
-    let Some(desk) = handle.take(alloc) else {
+    let Some(machine) = handle.take(alloc) else {
         return Status::NoMachine.number();
     };
-    *regs = desk.registers();
-    handle.put(desk);
+    *regs = machine.registers();
+    handle.put(machine);
     Status::Done.number()
 }
 
@@ -302,11 +302,11 @@ pub extern "C" fn p11_keys_waiting(alloc: Global, handle: &mut Handle, keys: &mu
         × (keys.new ≡ (machine_devices_of kept.machine).keys))
         (keys.new ≡ keys.old) handle.old.slot.held result handle.new.slot.held }
 {
-    let Some(desk) = handle.take(alloc) else {
+    let Some(machine) = handle.take(alloc) else {
         return Status::NoMachine.number();
     };
-    *keys = desk.keys_waiting();
-    handle.put(desk);
+    *keys = machine.keys_waiting();
+    handle.put(machine);
     Status::Done.number()
 }
 
@@ -327,11 +327,11 @@ pub extern "C" fn p11_files(
         (lent files.new files_length.new ≡ lent files.old files_length.old)
         handle.old.slot.held result handle.new.slot.held }
 {
-    let Some(desk) = handle.take(alloc) else {
+    let Some(machine) = handle.take(alloc) else {
         return Status::NoMachine.number();
     };
-    let status = hand_files(alloc, &desk, files, files_length);
-    handle.put(desk);
+    let status = hand_files(alloc, &machine, files, files_length);
+    handle.put(machine);
     status.number()
 }
 

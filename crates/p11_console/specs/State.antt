@@ -1,13 +1,13 @@
 -- What contracts see of a console.
 use Rattle.std.specs.Prelude.{ℕ, Bool, false, List, [], ◌∷◌, replicate, slice_set, Option, Some, None}
 use Rattle.p11_cpu.specs.State.{State}
-use Rattle.p11_phrases.specs.declared.place.Place.{Place}
-use Rattle.p11_phrases.specs.declared.place.Place.TheVariants.{Nowhere}
-use Rattle.p11_console.specs.Typing.{fresh}
-use Rattle.p11_console.specs.declared.settings.Settings.{Settings}
-use Rattle.p11_console.specs.declared.typist.Typist.{Typist}
-use Rattle.p11_console.specs.declared.way.Way.{Way}
-use Rattle.p11_console.specs.declared.way.Way.TheVariants.{Free}
+use Rattle.p11_phrases.specs.declared.place.ExaminedPlace.{ExaminedPlace}
+use Rattle.p11_phrases.specs.declared.place.ExaminedPlace.TheVariants.{Nowhere}
+use Rattle.p11_dialogue.specs.Typing.{fresh}
+use Rattle.p11_dialogue.specs.declared.settings.Settings.{Settings}
+use Rattle.p11_dialogue.specs.declared.typist.Typist.{Typist}
+use Rattle.p11_dialogue.specs.declared.activity.Activity.{Activity}
+use Rattle.p11_dialogue.specs.declared.activity.Activity.TheVariants.{Free}
 
 pub record ConsoleState (A : Type 0) : Type 0 where
   pub machine : State
@@ -21,7 +21,7 @@ pub record ConsoleState (A : Type 0) : Type 0 where
   pub ticks : ℕ
   -- the line that is typed, and what an empty one shows
   pub typist : Typist A
-  pub place : Place
+  pub place : ExaminedPlace
   -- the line that was done last is `step` alone, or an empty one behind it
   pub is_stepping : Bool
   -- the lines that the typed one means and that aren't done yet, and those of a script
@@ -40,7 +40,7 @@ pub record ConsoleState (A : Type 0) : Type 0 where
   pub journal : List ℕ
   pub past : List ℕ
   -- what is under way
-  pub way : Way A
+  pub activity : Activity A
 
 -- nothing has come, and nothing is under way
 unfoldable pub opened : {A : Type 0} → State → Settings → ConsoleState A
@@ -65,5 +65,5 @@ opened machine settings =
       screen = [];
       journal = [];
       past = [];
-      way = Free;
+      activity = Free;
     }

@@ -13,21 +13,21 @@ use Rattle.p11_panel.specs.declared.command.Command.TheVariants as commands
 use Rattle.p11_panel.specs.Commands.{CommandStep}
 use Rattle.p11_panel.specs.Calls.Runs.{run_command}
 use Rattle.p11_panel.specs.Session.{has_answer}
-use Rattle.p11_console.specs.Own.{own_of, name_of}
-use Rattle.p11_console.specs.Record.{ended, recorded}
-use Rattle.p11_console.specs.Runs.{run_of, talk_of}
-use Rattle.p11_console.specs.declared.settings.Trying.{Trying}
-use Rattle.p11_console.specs.declared.own.Own.{Own}
-use Rattle.p11_console.specs.declared.own.Own.TheVariants as own
-use Rattle.p11_console.specs.declared.way.Way.{Way}
-use Rattle.p11_console.specs.declared.way.Way.TheVariants.{Free, Helping, Running, Telling, Fetching, Putting, Unmounting, Opening, Leaving}
+use Rattle.p11_dialogue.specs.LineKinds.{kind_of_line, script_name}
+use Rattle.p11_dialogue.specs.Record.{ended, recorded}
+use Rattle.p11_dialogue.specs.Runs.{run_of, talk_of}
+use Rattle.p11_dialogue.specs.declared.settings.Trying.{Trying}
+use Rattle.p11_dialogue.specs.declared.line_kind.LineKind.{LineKind}
+use Rattle.p11_dialogue.specs.declared.line_kind.LineKind.TheVariants as kinds
+use Rattle.p11_dialogue.specs.declared.activity.Activity.{Activity}
+use Rattle.p11_dialogue.specs.declared.activity.Activity.TheVariants.{Free, Helping, Running, Telling, Fetching, Putting, Unmounting, Opening, Leaving}
 
 -- a refusal, of which nothing is recorded
-abbrev pub refused : {A : Type 0} → Answer A → Way A
+abbrev pub refused : {A : Type 0} → Answer A → Activity A
 refused answer = Telling answer [] tt
 
 -- a run has 1 to 100,000,000 turns
-unfoldable pub run_begun : {A : Type 0} → ℕ → Bool → Way A
+unfoldable pub run_begun : {A : Type 0} → ℕ → Bool → Activity A
 run_begun turns until_idle =
     if turns == 0 || nat_lt 100000000 turns then refused (answers.Refused TooMany) else Running (run_of turns until_idle)
 
@@ -48,64 +48,64 @@ command_of lines.Device = Ok commands.Device
 command_of line = Err line
 
 -- a command is done, is told next, and its line is recorded unless it was refused
-unfoldable pub Acts : {A : Type 0} → Command A → List ℕ → State → Way A → State → Type 0
-Acts {A} command text s way s' =
-    (answer : Answer A) × CommandStep s command answer s' × (way ≡ Telling answer (recorded text answer) tt)
+unfoldable pub Acts : {A : Type 0} → Command A → List ℕ → State → Activity A → State → Type 0
+Acts {A} command text s activity s' =
+    (answer : Answer A) × CommandStep s command answer s' × (activity ≡ Telling answer (recorded text answer) tt)
 
 -- a line of the language is a command, or waits for its file
-abbrev pub ActsOr : {A : Type 0} → Line A → Result (Command A) (Line A) → State → Way A → State → Type 0
-ActsOr line (Ok command) s way s' = Acts command (ended line) s way s'
-ActsOr line (Err other) s way s' = (way ≡ Fetching other (ended line)) × (s' ≡ s)
+abbrev pub ActsOr : {A : Type 0} → Line A → Result (Command A) (Line A) → State → Activity A → State → Type 0
+ActsOr line (Ok command) s activity s' = Acts command (ended line) s activity s'
+ActsOr line (Err other) s activity s' = (activity ≡ Fetching other (ended line)) × (s' ≡ s)
 
 -- The image of a pack waits for its file, which is asked for anew if one is there. A SAVE that writes nothing is answered,
 -- and isn't recorded.
-unfoldable pub way_saved : {A : Type 0} → Trying → Line A → List ℕ → Answer A → Way A
-way_saved how line text (answers.Image image) =
+unfoldable pub activity_saved : {A : Type 0} → Trying → Line A → List ℕ → Answer A → Activity A
+activity_saved how line text (answers.Image image) =
     if how.is_saveless then Telling answers.Done [] tt else Putting line image text (not how.is_asking)
-way_saved how line text answer = Telling answer (recorded text answer) tt
+activity_saved how line text answer = Telling answer (recorded text answer) tt
 
-unfoldable pub Saves : {A : Type 0} → Trying → ℕ → Line A → List ℕ → State → Way A → State → Type 0
-Saves {A} how drive line text s way s' =
-    (answer : Answer A) × CommandStep s (commands.Save drive) answer s' × (way ≡ way_saved how line text answer)
+unfoldable pub Saves : {A : Type 0} → Trying → ℕ → Line A → List ℕ → State → Activity A → State → Type 0
+Saves {A} how drive line text s activity s' =
+    (answer : Answer A) × CommandStep s (commands.Save drive) answer s' × (activity ≡ activity_saved how line text answer)
 
 -- a run is made in slices, or at once
-unfoldable pub TriesRun : {A : Type 0} → Trying → Line A → ℕ → Bool → State → Way A → State → Type 0
-TriesRun how line turns until_idle s way s' =
-    MatchBool how.is_whole (Acts (run_command until_idle turns) (ended line) s way s')
-    ((way ≡ run_begun turns until_idle) × (s' ≡ s))
+unfoldable pub TriesRun : {A : Type 0} → Trying → Line A → ℕ → Bool → State → Activity A → State → Type 0
+TriesRun how line turns until_idle s activity s' =
+    MatchBool how.is_whole (Acts (run_command until_idle turns) (ended line) s activity s')
+    ((activity ≡ run_begun turns until_idle) × (s' ≡ s))
 
 -- a pack is taken off; where a person may be asked first, by a step of its own
-unfoldable pub TriesUnmount : {A : Type 0} → Trying → ℕ → State → Way A → State → Type 0
-TriesUnmount {A} how drive s way s' =
-    MatchBool how.is_asking ((way ≡ Unmounting drive false) × (s' ≡ s))
-    (Acts (commands.Unmount drive) (ended {A = A} (lines.Unmount drive)) s way s')
+unfoldable pub TriesUnmount : {A : Type 0} → Trying → ℕ → State → Activity A → State → Type 0
+TriesUnmount {A} how drive s activity s' =
+    MatchBool how.is_asking ((activity ≡ Unmounting drive false) × (s' ≡ s))
+    (Acts (commands.Unmount drive) (ended {A = A} (lines.Unmount drive)) s activity s')
 
-unfoldable pub TriesLine : {A : Type 0} → Trying → Line A → State → Way A → State → Type 0
-TriesLine how (lines.Step turns) s way s' = TriesRun how (lines.Step turns) turns false s way s'
-TriesLine how (lines.Continue turns) s way s' = TriesRun how (lines.Continue turns) turns true s way s'
-TriesLine how (lines.Unmount drive) s way s' = TriesUnmount how drive s way s'
-TriesLine {A} how (lines.Save drive name) s way s' =
-    Saves {A = A} how drive (lines.Save drive name) (ended {A = A} (lines.Save drive name)) s way s'
-TriesLine how line s way s' = ActsOr line (command_of line) s way s'
+unfoldable pub TriesLine : {A : Type 0} → Trying → Line A → State → Activity A → State → Type 0
+TriesLine how (lines.Step turns) s activity s' = TriesRun how (lines.Step turns) turns false s activity s'
+TriesLine how (lines.Continue turns) s activity s' = TriesRun how (lines.Continue turns) turns true s activity s'
+TriesLine how (lines.Unmount drive) s activity s' = TriesUnmount how drive s activity s'
+TriesLine {A} how (lines.Save drive name) s activity s' =
+    Saves {A = A} how drive (lines.Save drive name) (ended {A = A} (lines.Save drive name)) s activity s'
+TriesLine how line s activity s' = ActsOr line (command_of line) s activity s'
 
 -- by what the grammar makes of it
-abbrev pub TriesOr : {A : Type 0} → Trying → Option (Line A) → State → Way A → State → Type 0
-TriesOr how None s way s' = (way ≡ refused (answers.Refused BadLine)) × (s' ≡ s)
-TriesOr how (Some line) s way s' = TriesLine how line s way s'
+abbrev pub TriesOr : {A : Type 0} → Trying → Option (Line A) → State → Activity A → State → Type 0
+TriesOr how None s activity s' = (activity ≡ refused (answers.Refused BadLine)) × (s' ≡ s)
+TriesOr how (Some line) s activity s' = TriesLine how line s activity s'
 
 -- a text that may be a line of the language; a blank one or a remark does nothing
-unfoldable pub Tries : {A : Type 0} → Trying → List ℕ → State → Way A → State → Type 0
-Tries how text s way s' = MatchBool (has_answer text) (TriesOr how (line_from text) s way s') ((way ≡ Free) × (s' ≡ s))
+unfoldable pub Tries : {A : Type 0} → Trying → List ℕ → State → Activity A → State → Type 0
+Tries how text s activity s' = MatchBool (has_answer text) (TriesOr how (line_from text) s activity s') ((activity ≡ Free) × (s' ≡ s))
 
 -- a line by what it is to the console
-abbrev pub Does : {A : Type 0} → Own → Trying → List ℕ → State → Way A → State → Type 0
-Does own.Talk how line s way s' = (way ≡ Running talk_of) × (s' ≡ s)
-Does own.Once how line s way s' = (way ≡ run_begun 1 false) × (s' ≡ s)
-Does own.Quit how line s way s' = (way ≡ Leaving) × (s' ≡ s)
-Does own.Help how line s way s' = (way ≡ Helping tt) × (s' ≡ s)
-Does own.Do how line s way s' = (way ≡ Opening (name_of line)) × (s' ≡ s)
-Does own.Language how line s way s' = Tries how line s way s'
+abbrev pub Does : {A : Type 0} → LineKind → Trying → List ℕ → State → Activity A → State → Type 0
+Does kinds.Talk how line s activity s' = (activity ≡ Running talk_of) × (s' ≡ s)
+Does kinds.Once how line s activity s' = (activity ≡ run_begun 1 false) × (s' ≡ s)
+Does kinds.Quit how line s activity s' = (activity ≡ Leaving) × (s' ≡ s)
+Does kinds.Help how line s activity s' = (activity ≡ Helping tt) × (s' ≡ s)
+Does kinds.Do how line s activity s' = (activity ≡ Opening (script_name line)) × (s' ≡ s)
+Does kinds.Language how line s activity s' = Tries how line s activity s'
 
 -- a line that was typed, or that a typed one means
-unfoldable pub DoesLine : {A : Type 0} → Trying → List ℕ → State → Way A → State → Type 0
-DoesLine how line s way s' = Does (own_of line) how line s way s'
+unfoldable pub DoesLine : {A : Type 0} → Trying → List ℕ → State → Activity A → State → Type 0
+DoesLine how line s activity s' = Does (kind_of_line line) how line s activity s'

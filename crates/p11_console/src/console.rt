@@ -2,11 +2,12 @@
 ghost use Rattle.std.specs.Prelude.{◌≡◌, ◌++◌, ◌≤◌, ◌+◌, min, true, length, drop, OnOk, OnErr, IfOk, IfErr};
 ghost use Rattle.p11_lines.specs.AnswerText.{text_of};
 ghost use Rattle.p11_console.specs.Files.{opening};
-ghost use Rattle.p11_console.specs.Said.{Says, SaysBefore};
+ghost use Rattle.p11_dialogue.specs.Said.{Says, SaysBefore};
 ghost use Rattle.p11_console.specs.State.{opened};
-ghost use Rattle.p11_console.specs.Steps.{Steps, Moves, Rests, is_refusal, status_of, way_ended};
-ghost use Rattle.p11_console.specs.Stops.{stop_text};
-ghost use Rattle.p11_console.specs.Typing.{rested};
+ghost use Rattle.p11_dialogue.specs.Behind.{activity_ended};
+ghost use Rattle.p11_console.specs.Steps.{Steps, Moves, Rests, is_refusal, status_of};
+ghost use Rattle.p11_dialogue.specs.Stops.{stop_text};
+ghost use Rattle.p11_dialogue.specs.Typing.{rested};
 ghost use Rattle.p11_line_editor.specs.History.{remembered};
 
 mod completion;
@@ -16,28 +17,17 @@ mod runs;
 mod typed;
 mod unmounts;
 
-use crate::buffer::Buffer;
-use crate::completing::{Kind, kind_at};
-use crate::help::help_on;
-use crate::note::Note;
 use crate::packs::Packs;
-use crate::scripts::Script;
-use crate::settings::{Settings, is_batch, is_person};
-use crate::slices::show_slice;
-use crate::stop::{Cause, Stop, put_stop};
-use crate::text::Text;
-use crate::typist::Typist;
-use crate::want::Want;
-use crate::way::{Place as WayPlace, Way};
+use p11_dialogue::{
+    Activity, ActivityCell, Asides, Buffer, Settings, Stop, StopCause, Typist, Want, WordKind,
+    help_on, is_batch, is_person, put_stop, show_slice, word_kind_at,
+};
 use p11_line_editor::Outcome;
 use p11_lines::{Answer, Bytes, NoMemory};
 use p11_panel::Panel;
-use p11_phrases::Place;
+use p11_phrases::ExaminedPlace;
 use std::alloc::{Allocator, Global};
 use std::marker::Model;
-
-/// What stands before a line that is typed.
-const PROMPT: &[u8] = b"p11> ";
 
 /// A console over a machine. Contracts see its `ConsoleState`.
 pub struct Console<A: Allocator = Global> {
@@ -48,7 +38,7 @@ pub struct Console<A: Allocator = Global> {
     is_over: bool,
     ticks: u32,
     typist: Typist<A>,
-    place: Place,
+    place: ExaminedPlace,
     is_stepping: bool,
     lines: Buffer<A>,
     script: Buffer<A>,
@@ -60,17 +50,11 @@ pub struct Console<A: Allocator = Global> {
     screen: Buffer<A>,
     journal: Buffer<A>,
     past: Buffer<A>,
-    way: WayPlace<A>,
-    /// What is said of a script that is all, apart from the answers.
-    errors: Buffer<A>,
-    /// Whether it was said how one comes back from a talk.
-    is_told: bool,
+    activity: ActivityCell<A>,
+    /// What is said beside the answers.
+    asides: Asides<A>,
     /// The columns of the screen.
     columns: usize,
-    /// Where the script's lines stand.
-    source: Script<A>,
-    /// The names of the files that weren't written.
-    unwritten: Vec<Bytes<A>, A>,
 }
 
 impl<A: Allocator> Drop for Console<A> {
@@ -95,12 +79,9 @@ impl<A: Allocator> Drop for Console<A> {
             screen: _,
             journal: _,
             past: _,
-            way: _,
-            errors: _,
-            is_told: _,
+            activity: _,
+            asides: _,
             columns: _,
-            source: _,
-            unwritten: _,
         } = self;
     }
 }
@@ -130,7 +111,7 @@ impl<A: Allocator> Model for Console<A> {
       screen = c.screen;
       journal = c.journal;
       past = c.past;
-      way = c.way;
+      activity = c.activity;
     } };
 }
 
@@ -148,7 +129,7 @@ impl<A: Allocator + Copy> Console<A> {
             is_over: false,
             ticks: 0,
             typist: Typist::new(alloc),
-            place: Place::Nowhere,
+            place: ExaminedPlace::Nowhere,
             is_stepping: false,
             lines: Buffer::new(alloc),
             script: Buffer::new(alloc),
@@ -160,24 +141,21 @@ impl<A: Allocator + Copy> Console<A> {
             screen: Buffer::new(alloc),
             journal: Buffer::new(alloc),
             past: Buffer::new(alloc),
-            way: WayPlace::free(),
-            errors: Buffer::new(alloc),
-            is_told: false,
+            activity: ActivityCell::free(),
+            asides: Asides::new(alloc),
             columns: 80,
-            source: Script::of(alloc, Bytes::from_vec(Vec::new(alloc))),
-            unwritten: Vec::new(alloc),
         }
     }
 
     /// The lines of the file of this name come next, where nothing is under way.
     pub fn open(&mut self, alloc: A, name: &[u8]) -> Result<(), NoMemory>
-        ensures ok { OnOk result (self.new ≡ record self.old { way = opening name.now self.old.way }) }
+        ensures ok { OnOk result (self.new ≡ record self.old { activity = opening name.now self.old.activity }) }
         ensures err { OnErr result (self.new ≡ self.old) }
     {
         let mut copy = Vec::new(alloc);
         copy.extend_from_slice(name)?;
-        if let Way::Free = self.way.get() {
-            self.way.set(Way::Opening {
+        if let Activity::Free = self.activity.get() {
+            self.activity.set(Activity::Opening {
                 name: Bytes::from_vec(copy),
             });
         }
@@ -247,7 +225,7 @@ impl<A: Allocator + Copy> Console<A> {
     pub fn redrawn(&mut self)
         ensures { Says self.old.screen self.new.screen × (self.new ≡ record self.old { screen = self.new.screen }) }
     {
-        if let Way::Typing = self.way.get() {
+        if let Activity::Typing = self.activity.get() {
             if is_person(self.settings.manner) {
                 self.show(Outcome::Changed);
             }
@@ -263,7 +241,7 @@ impl<A: Allocator + Copy> Console<A> {
 
     /// The bytes for the standard error that the host hasn't taken: what is said of a script that is all.
     pub fn errors(&self) -> &[u8] {
-        self.errors.as_slice()
+        self.asides.errors()
     }
 
     /// The status of a program that holds this dialogue, once it is over (decimal).
@@ -314,8 +292,7 @@ impl<A: Allocator + Copy> Console<A> {
     pub fn told(&mut self)
         ensures { self.new ≡ self.old }
     {
-        let count = self.errors.len();
-        self.errors.drop_front(count);
+        self.asides.drop_errors();
     }
 
     /// Does one thing: takes a key, does a line, makes a slice of at most so many turns, presses keys, shows what was typed,
@@ -324,8 +301,8 @@ impl<A: Allocator + Copy> Console<A> {
         ensures { Steps turns self.old result self.new }
     {
         match self.do_next(alloc, turns) {
-            Ok(way) => {
-                self.way.set(way);
+            Ok(activity) => {
+                self.activity.set(activity);
                 Want::Step
             }
             Err(want) => want,
@@ -334,39 +311,39 @@ impl<A: Allocator + Copy> Console<A> {
 
     /// Does that, but for bringing something else under way.
     #[tactic(auto, using(crate::proofs::Resting::running_rests, crate::proofs::Resting::typing_rests, crate::proofs::Resting::answer_rests, crate::proofs::Resting::consent_rests))]
-    fn do_next(&mut self, alloc: A, turns: u32) -> Result<Way<A>, Want>
-        ensures ok { IfOk result (λ way. Moves turns self.old.way self.old (record self.new { way = way })) }
+    fn do_next(&mut self, alloc: A, turns: u32) -> Result<Activity<A>, Want>
+        ensures ok { IfOk result (λ activity. Moves turns self.old.activity self.old (record self.new { activity = activity })) }
         ensures err { IfErr result (λ want. Rests want self.old) }
         ensures same { OnErr result (self.new ≡ self.old) }
     {
-        match self.way.get() {
-            Way::Free => self.find_line(alloc),
-            Way::Typing => self.take_typed(alloc),
-            Way::Naming => {
-                if kind_at(&self.typist.editor) == Kind::File {
+        match self.activity.get() {
+            Activity::Free => self.find_line(alloc),
+            Activity::Typing => self.take_typed(alloc),
+            Activity::Naming => {
+                if word_kind_at(&self.typist.editor) == WordKind::File {
                     return Err(Want::Names);
                 }
                 self.complete(alloc, &[]);
-                Ok(Way::Typing)
+                Ok(Activity::Typing)
             }
-            Way::Entered => {
+            Activity::Entered => {
                 self.keep_line(alloc)?;
-                Ok(Way::Noted)
+                Ok(Activity::Noted)
             }
-            Way::Noted => self.read_line(alloc),
-            Way::Helping(topic) => {
+            Activity::Noted => self.read_line(alloc),
+            Activity::Helping(topic) => {
                 self.screen.say(help_on(alloc, topic).as_slice());
-                Ok(Way::Free)
+                Ok(Activity::Free)
             }
-            Way::Running(run) => {
+            Activity::Running(run) => {
                 let run = *run;
                 self.go_on(alloc, run, turns)
             }
-            Way::Sliced { run, answer } => {
-                let way = show_slice(alloc, &mut self.screen, *run, answer)?;
-                Ok(way)
+            Activity::Sliced { run, answer } => {
+                let activity = show_slice(alloc, &mut self.screen, *run, answer)?;
+                Ok(activity)
             }
-            Way::Stopped { stop, text } => {
+            Activity::Stopped { stop, text } => {
                 let stop = *stop;
                 tell_stop(
                     alloc,
@@ -375,81 +352,33 @@ impl<A: Allocator + Copy> Console<A> {
                     stop,
                     text.as_slice(),
                 )?;
-                Ok(way_ended(stop.cause))
+                Ok(activity_ended(stop.cause))
             }
-            Way::Telling { answer, text, note } => {
+            Activity::Telling { answer, text, note } => {
                 tell(&mut self.screen, &mut self.journal, answer, text.as_slice())?;
                 self.has_refused = self.has_refused || self.is_scripted && is_refusal(answer);
-                if is_batch(self.settings.manner) {
-                    add_remark(alloc, &mut self.source, &mut self.errors, answer, note);
-                }
-                let said = note_text(alloc, &mut self.source, self.settings, answer, note);
+                let manner = self.settings.manner;
+                let said = self.asides.behind_answer(alloc, manner, answer, note);
                 self.screen.say(said.as_slice());
-                note_unwritten(alloc, &mut self.unwritten, note);
-                Ok(Way::Free)
+                Ok(Activity::Free)
             }
-            Way::Asking { .. } => self.take_answer(),
-            Way::Unmounting { drive, is_agreed } => {
+            Activity::Asking { .. } => self.take_answer(),
+            Activity::Unmounting { drive, is_agreed } => {
                 let drive = *drive;
                 let is_agreed = *is_agreed;
                 self.unmount(alloc, drive, is_agreed)
             }
-            Way::Doubting { drive } => {
+            Activity::Doubting { drive } => {
                 let drive = *drive;
                 self.take_consent(drive)
             }
-            Way::Fetching { .. } => Err(Want::Fetch),
-            Way::Opening { .. } => Err(Want::Fetch),
-            Way::Putting { .. } => Err(Want::Put),
-            Way::Leaving => self.leave(alloc),
-            Way::Over => Err(Want::End),
+            Activity::Fetching { .. } => Err(Want::Fetch),
+            Activity::Opening { .. } => Err(Want::Fetch),
+            Activity::Putting { .. } => Err(Want::Put),
+            Activity::Leaving => self.leave(alloc),
+            Activity::Over => Err(Want::End),
         }
     }
-}
-
-/// What is said behind an answer on the screen; of a script that is all nothing.
-fn note_text<A: Allocator>(
-    alloc: A,
-    source: &mut Script<A>,
-    settings: Settings,
-    answer: &Answer<A>,
-    note: &Note<A>,
-) -> Text<A> {
-    let mut text = Text::new(alloc);
-    if !is_batch(settings.manner) {
-        source.add_note(&mut text, answer, note);
-    }
-    text
-}
-
-/// Says apart what there is to say of a line of a script that is all.
-fn add_remark<A: Allocator>(
-    alloc: A,
-    source: &mut Script<A>,
-    errors: &mut Buffer<A>,
-    answer: &Answer<A>,
-    note: &Note<A>,
-) {
-    let mut text = Text::new(alloc);
-    source.add_remark(&mut text, answer, note);
-    errors.say(text.as_slice());
-}
-
-/// Keeps the name of the file that a line would have written, if it is a new one.
-fn note_unwritten<A: Allocator + Copy>(alloc: A, names: &mut Vec<Bytes<A>, A>, note: &Note<A>) {
-    let Some(name) = note.unwritten_name() else {
-        return;
-    };
-    if names
-        .as_slice()
-        .iter()
-        .any(|other| other.as_slice() == name)
-    {
-        return;
-    }
-    let mut copy = Text::new(alloc);
-    copy.add(name);
-    let _ = names.push(Bytes::from_vec(copy.into_vec()));
 }
 
 fn is_refusal<A: Allocator>(answer: &Answer<A>) -> bool
@@ -461,12 +390,12 @@ fn is_refusal<A: Allocator>(answer: &Answer<A>) -> bool
     }
 }
 
-fn way_ended<A: Allocator>(cause: Cause) -> Way<A>
-    ensures { result ≡ way_ended cause }
+fn activity_ended<A: Allocator>(cause: StopCause) -> Activity<A>
+    ensures { result ≡ activity_ended cause }
 {
     match cause {
-        Cause::End => Way::Leaving,
-        _ => Way::Free,
+        StopCause::End => Activity::Leaving,
+        _ => Activity::Free,
     }
 }
 

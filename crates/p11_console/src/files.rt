@@ -1,14 +1,13 @@
 // The files that lines wait for.
 ghost use Rattle.std.specs.Prelude.{◌≡◌, option_copied};
-ghost use Rattle.p11_console.specs.Files.{GivesLine, file_command, file_of, file_name, pack_drive, is_mount, way_missing};
+ghost use Rattle.p11_console.specs.Files.{GivesLine, file_command, file_of, file_name, pack_drive, is_mount, activity_missing};
 ghost use Rattle.p11_console.specs.Tries.{refused};
 ghost use Rattle.p11_lines.specs.declared.answer.Answer.TheVariants as answers;
 ghost use Rattle.p11_panel.specs.Session.{fault_of};
 
-use crate::reasons::{note_of, note_of_file};
 use crate::tries::{act, refused};
 use crate::trouble::Trouble;
-use crate::way::Way;
+use p11_dialogue::{Activity, note_of, note_of_file};
 use p11_lines::{Bytes, Fault, Line};
 use p11_panel::{Command, Panel, StoreError};
 use std::alloc::Allocator;
@@ -65,7 +64,7 @@ fn command_on<A: Allocator>(line: &Line<A>, bytes: Bytes<A>) -> Option<Command<A
 }
 
 /// The refusal of a line whose file can't be had.
-fn refuse<A: Allocator + Copy>(alloc: A, name: &[u8], trouble: Trouble) -> Way<A>
+fn refuse<A: Allocator + Copy>(alloc: A, name: &[u8], trouble: Trouble) -> Activity<A>
     ensures { result ≡ refused (answers.Refused (fault_of trouble.error)) }
 {
     match trouble.error {
@@ -83,16 +82,16 @@ fn refuse<A: Allocator + Copy>(alloc: A, name: &[u8], trouble: Trouble) -> Way<A
 }
 
 /// What comes under way where a script can't be had.
-pub(crate) fn way_missing<A: Allocator + Copy>(
+pub(crate) fn activity_missing<A: Allocator + Copy>(
     alloc: A,
     is_all: bool,
     name: &[u8],
     trouble: Trouble,
-) -> Way<A>
-    ensures { result ≡ way_missing is_all trouble.error }
+) -> Activity<A>
+    ensures { result ≡ activity_missing is_all trouble.error }
 {
     if is_all {
-        return Way::Free;
+        return Activity::Free;
     }
     refuse(alloc, name, trouble)
 }
@@ -105,7 +104,7 @@ pub(crate) fn give_line<A: Allocator + Copy>(
     line: &Line<A>,
     text: Bytes<A>,
     file: Result<Vec<u8, A>, Trouble>,
-) -> Way<A>
+) -> Activity<A>
     ensures { GivesLine (file_of file) line.now text panel.old result panel.new }
 {
     match file {

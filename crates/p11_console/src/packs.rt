@@ -2,7 +2,7 @@
 ghost use Rattle.std.specs.Prelude.{◌≡◌, ◌<◌, None, Some, replicate, slice_index_or, slice_set, not, nat_lt, IfOk, option_copied};
 ghost use Rattle.p11_console.specs.Saved.{is_image, is_unsaved, loses_sectors, unsaved_image, any_unsaved, all_drives, saved_by};
 
-use crate::text::Text;
+use p11_dialogue::Text;
 use p11_lines::{Answer, Bytes, Fault, Line, NoMemory};
 use p11_panel::{Command, Panel};
 use std::alloc::Allocator;

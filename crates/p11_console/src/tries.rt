@@ -2,22 +2,18 @@
 ghost use Rattle.std.specs.Prelude.{◌≡◌, [], IfOk, OnErr};
 ghost use Rattle.p11_panel.specs.Session.{is_silent, has_answer};
 ghost use Rattle.p11_panel.specs.Commands.{CommandStep};
-ghost use Rattle.p11_console.specs.Own.{name_of};
-ghost use Rattle.p11_console.specs.Tries.{Tries, TriesLine, TriesRun, TriesUnmount, Acts, Saves, way_saved, run_begun, command_of, DoesLine};
-ghost use Rattle.p11_console.specs.Record.{ended};
+ghost use Rattle.p11_dialogue.specs.LineKinds.{script_name};
+ghost use Rattle.p11_console.specs.Tries.{Tries, TriesLine, TriesRun, TriesUnmount, Acts, Saves, activity_saved, run_begun, command_of, DoesLine};
+ghost use Rattle.p11_dialogue.specs.Record.{ended};
 
 use crate::files::file_in;
-use crate::misfit::why_no_line;
-use crate::note::{Note, Subject, Topic};
-use crate::own::{Own, name_of, own_of, verb_and_rest};
-use crate::reasons::{note_for, note_of};
-use crate::record::{record_line, record_unmount, recorded};
-use crate::run::{run_of, talk_of};
-use crate::settings::Trying;
+use crate::reasons::note_for;
 use crate::slices::run_command;
-use crate::tapes::note_of_tape;
-use crate::text::Text;
-use crate::way::Way;
+use p11_dialogue::{
+    Activity, LineKind, Note, Subject, Text, Topic, Trying, kind_of_line, note_of, note_of_tape,
+    record_line, record_unmount, recorded, run_of, script_name, talk_of, verb_and_rest,
+    why_no_line,
+};
 use p11_lines::{Answer, Bytes, Fault, Line, NoMemory, parse_line};
 use p11_panel::{Command, MOST_TURNS, Panel};
 use p11_phrases::{Meant, parted, word_meant};
@@ -39,10 +35,10 @@ fn is_silent(line: &[u8]) -> bool
 }
 
 /// A refusal, of which nothing is recorded.
-pub(crate) fn refused<A: Allocator>(alloc: A, fault: Fault, note: Note<A>) -> Way<A>
-    ensures { result ≡ Way.Telling (Answer.Refused fault) [] tt }
+pub(crate) fn refused<A: Allocator>(alloc: A, fault: Fault, note: Note<A>) -> Activity<A>
+    ensures { result ≡ Activity.Telling (Answer.Refused fault) [] tt }
 {
-    Way::Telling {
+    Activity::Telling {
         answer: Answer::Refused(fault),
         text: Bytes::from_vec(Vec::new(alloc)),
         note,
@@ -51,13 +47,13 @@ pub(crate) fn refused<A: Allocator>(alloc: A, fault: Fault, note: Note<A>) -> Wa
 
 /// What the line of a run brings under way.
 #[tactic(auto, unfolding(crate::specs::Tries::run_begun))]
-pub(crate) fn begin_run<A: Allocator + Copy>(alloc: A, turns: u32, until_idle: bool) -> Way<A>
+pub(crate) fn begin_run<A: Allocator + Copy>(alloc: A, turns: u32, until_idle: bool) -> Activity<A>
     ensures { result ≡ run_begun turns until_idle }
 {
     if turns == 0 || turns > MOST_TURNS {
         return refused(alloc, Fault::TooMany, note_of(alloc, Fault::TooMany));
     }
-    Way::Running(run_of(turns, until_idle))
+    Activity::Running(run_of(turns, until_idle))
 }
 
 /// The command of a line that makes no run, names no file and takes no pack off; and of another line that one.
@@ -111,13 +107,13 @@ pub(crate) fn act<A: Allocator + Copy>(
     panel: &mut Panel<A>,
     command: Command<A>,
     text: Bytes<A>,
-) -> Way<A>
+) -> Activity<A>
     ensures { Acts command text panel.old result panel.new }
 {
     let answer = panel.act(alloc, &command);
     let text = recorded(alloc, &answer, text);
     let note = note_on(alloc, &answer, &command);
-    Way::Telling { answer, text, note }
+    Activity::Telling { answer, text, note }
 }
 
 /// That a line writes no file.
@@ -130,26 +126,26 @@ fn unwritten<A: Allocator + Copy>(alloc: A, line: &Line<A>) -> Note<A> {
 }
 
 /// What comes behind an answer of SAVE.
-#[tactic(auto, unfolding(crate::specs::Tries::way_saved))]
-fn way_saved<A: Allocator + Copy>(
+#[tactic(auto, unfolding(crate::specs::Tries::activity_saved))]
+fn activity_saved<A: Allocator + Copy>(
     alloc: A,
     how: Trying,
     line: Line<A>,
     text: Bytes<A>,
     answer: Answer<A>,
-) -> Way<A>
-    ensures { result ≡ way_saved how line text answer }
+) -> Activity<A>
+    ensures { result ≡ activity_saved how line text answer }
 {
     match answer {
         Answer::Image(image) => {
             if how.is_saveless {
-                return Way::Telling {
+                return Activity::Telling {
                     answer: Answer::Done,
                     text: Bytes::from_vec(Vec::new(alloc)),
                     note: unwritten(alloc, &line),
                 };
             }
-            Way::Putting {
+            Activity::Putting {
                 line,
                 image,
                 text,
@@ -159,7 +155,7 @@ fn way_saved<A: Allocator + Copy>(
         answer => {
             let text = recorded(alloc, &answer, text);
             let note = note_behind(alloc, &answer);
-            Way::Telling { answer, text, note }
+            Activity::Telling { answer, text, note }
         }
     }
 }
@@ -173,11 +169,11 @@ fn save<A: Allocator + Copy>(
     drive: u32,
     line: Line<A>,
     text: Bytes<A>,
-) -> Way<A>
+) -> Activity<A>
     ensures { Saves how drive line text panel.old result panel.new }
 {
     let answer = panel.act(alloc, &Command::Save { drive });
-    way_saved(alloc, how, line, text, answer)
+    activity_saved(alloc, how, line, text, answer)
 }
 
 /// Does the line of a run.
@@ -189,8 +185,8 @@ fn try_run<A: Allocator + Copy>(
     line: Line<A>,
     turns: u32,
     until_idle: bool,
-) -> Result<Way<A>, NoMemory>
-    ensures ok { IfOk result (λ way. TriesRun how line turns until_idle panel.old way panel.new) }
+) -> Result<Activity<A>, NoMemory>
+    ensures ok { IfOk result (λ activity. TriesRun how line turns until_idle panel.old activity panel.new) }
     ensures err { OnErr result (panel.new ≡ panel.old) }
 {
     if how.is_whole {
@@ -207,12 +203,12 @@ fn try_unmount<A: Allocator + Copy>(
     panel: &mut Panel<A>,
     how: Trying,
     drive: u32,
-) -> Result<Way<A>, NoMemory>
-    ensures ok { IfOk result (λ way. TriesUnmount how drive panel.old way panel.new) }
+) -> Result<Activity<A>, NoMemory>
+    ensures ok { IfOk result (λ activity. TriesUnmount how drive panel.old activity panel.new) }
     ensures err { OnErr result (panel.new ≡ panel.old) }
 {
     if how.is_asking {
-        return Ok(Way::Unmounting {
+        return Ok(Activity::Unmounting {
             drive,
             is_agreed: false,
         });
@@ -228,8 +224,8 @@ fn try_line<A: Allocator + Copy>(
     panel: &mut Panel<A>,
     how: Trying,
     line: Line<A>,
-) -> Result<Way<A>, NoMemory>
-    ensures ok { IfOk result (λ way. TriesLine how line panel.old way panel.new) }
+) -> Result<Activity<A>, NoMemory>
+    ensures ok { IfOk result (λ activity. TriesLine how line panel.old activity panel.new) }
     ensures err { OnErr result (panel.new ≡ panel.old) }
 {
     match line {
@@ -247,7 +243,7 @@ fn try_line<A: Allocator + Copy>(
             let text = record_line(alloc, &line)?;
             match command(line) {
                 Ok(command) => Ok(act(alloc, panel, command, text)),
-                Err(line) => Ok(Way::Fetching { line, text }),
+                Err(line) => Ok(Activity::Fetching { line, text }),
             }
         }
     }
@@ -260,12 +256,12 @@ pub(crate) fn try_text<A: Allocator + Copy>(
     panel: &mut Panel<A>,
     how: Trying,
     text: &[u8],
-) -> Result<Way<A>, NoMemory>
-    ensures ok { IfOk result (λ way. Tries how text.now panel.old way panel.new) }
+) -> Result<Activity<A>, NoMemory>
+    ensures ok { IfOk result (λ activity. Tries how text.now panel.old activity panel.new) }
     ensures err { OnErr result (panel.new ≡ panel.old) }
 {
     if text.len() <= 4096 && is_silent(text) {
-        return Ok(Way::Free);
+        return Ok(Activity::Free);
     }
     match parse_line(alloc, text) {
         Ok(line) => try_line(alloc, panel, how, line),
@@ -287,12 +283,12 @@ fn topic_of(line: &[u8]) -> Topic {
 }
 
 /// The lines of a file are asked for.
-fn open_script<A: Allocator>(alloc: A, line: &[u8]) -> Result<Way<A>, NoMemory>
-    ensures { IfOk result (λ way. way ≡ Way.Opening (name_of line.now)) }
+fn open_script<A: Allocator>(alloc: A, line: &[u8]) -> Result<Activity<A>, NoMemory>
+    ensures { IfOk result (λ activity. activity ≡ Activity.Opening (script_name line.now)) }
 {
     let mut name = Vec::new(alloc);
-    name.extend_from_slice(name_of(line))?;
-    Ok(Way::Opening {
+    name.extend_from_slice(script_name(line))?;
+    Ok(Activity::Opening {
         name: Bytes::from_vec(name),
     })
 }
@@ -304,16 +300,16 @@ pub(crate) fn do_line<A: Allocator + Copy>(
     panel: &mut Panel<A>,
     how: Trying,
     line: &[u8],
-) -> Result<Way<A>, NoMemory>
-    ensures ok { IfOk result (λ way. DoesLine how line.now panel.old way panel.new) }
+) -> Result<Activity<A>, NoMemory>
+    ensures ok { IfOk result (λ activity. DoesLine how line.now panel.old activity panel.new) }
     ensures err { OnErr result (panel.new ≡ panel.old) }
 {
-    match own_of(line) {
-        Own::Talk => Ok(Way::Running(talk_of())),
-        Own::Once => Ok(begin_run(alloc, 1, false)),
-        Own::Quit => Ok(Way::Leaving),
-        Own::Help => Ok(Way::Helping(topic_of(line))),
-        Own::Do => open_script(alloc, line),
-        Own::Language => try_text(alloc, panel, how, line),
+    match kind_of_line(line) {
+        LineKind::Talk => Ok(Activity::Running(talk_of())),
+        LineKind::Once => Ok(begin_run(alloc, 1, false)),
+        LineKind::Quit => Ok(Activity::Leaving),
+        LineKind::Help => Ok(Activity::Helping(topic_of(line))),
+        LineKind::Do => open_script(alloc, line),
+        LineKind::Language => try_text(alloc, panel, how, line),
     }
 }

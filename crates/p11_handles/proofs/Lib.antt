@@ -2,11 +2,11 @@
 pub mod AsBox
 pub mod CallLemmas
 pub mod HeldLemmas
-pub mod Loosened
+pub mod RawBoxes
 pub mod ReadLemmas
 pub mod RowLemmas
 pub mod RunLemmas
-pub mod SeatAsBox
-pub mod SeatLemmas
+pub mod ConsoleAsBox
+pub mod ConsoleLemmas
 pub mod StoreLemmas
 pub mod TypedLemmas

@@ -7,9 +7,9 @@ pub mod HeldRuns
 pub mod Registers
 pub mod Rows
 pub mod ScriptReads
-pub mod SeatCalls
-pub mod SeatSlots
-pub mod Seats
+pub mod ConsoleCalls
+pub mod ConsoleSlots
+pub mod HeldConsoles
 pub mod Slots
 pub mod Statuses
 pub mod Typed

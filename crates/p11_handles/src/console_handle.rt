@@ -1,10 +1,10 @@
 // What C's variable holds: a console or none.
 ghost use Rattle.std.specs.Prelude.{◌≡◌, None, Some, IfOk, IfErr, MatchOption};
-ghost use Rattle.p11_handles.specs.Seats.{Seated, consoles_of, settings_of};
-ghost use Rattle.p11_handles.specs.SeatCalls.{OpensConsole, wished};
+ghost use Rattle.p11_handles.specs.HeldConsoles.{HeldDialogue, consoles_of, settings_of};
+ghost use Rattle.p11_handles.specs.ConsoleCalls.{OpensConsole, wished};
 
-use crate::seat::{Seat, manner_of};
-use crate::seat_slot::SeatSlot;
+use crate::console_slot::ConsoleSlot;
+use crate::held_console::{HeldConsole, manner_of};
 use crate::status::Status;
 use p11_console::Settings;
 use p11_panel::{Config, Panel};
@@ -15,7 +15,7 @@ use std::mem::replace;
 #[repr(C)]
 pub struct ConsoleHandle {
     /// What it holds, and the pointer to it.
-    pub slot: SeatSlot,
+    pub slot: ConsoleSlot,
     /// How many it holds: 0 or 1.
     consoles: u32,
     ghost counted: { consoles ≡ consoles_of slot.held },
@@ -32,14 +32,14 @@ impl Drop for ConsoleHandle {
 
 impl ConsoleHandle {
     /// Takes what it holds.
-    #[tactic(auto, unfolding(crate::specs::Seats::consoles_of))]
-    pub fn take(&mut self, alloc: Global) -> Option<Box<Seat>>
-        ensures taken { MatchOption result (self.old.slot.held ≡ None) (λ seat. self.old.slot.held ≡ Some seat.value) }
+    #[tactic(auto, unfolding(crate::specs::HeldConsoles::consoles_of))]
+    pub fn take(&mut self, alloc: Global) -> Option<Box<HeldConsole>>
+        ensures taken { MatchOption result (self.old.slot.held ≡ None) (λ console. self.old.slot.held ≡ Some console.value) }
         ensures none { self.new.slot.held ≡ None }
     {
         let consoles = self.consoles;
         self.consoles = 0;
-        let slot = replace(&mut self.slot, SeatSlot::empty(alloc));
+        let slot = replace(&mut self.slot, ConsoleSlot::empty(alloc));
         if consoles == 1 {
             Some(slot.into_box())
         } else {
@@ -48,26 +48,26 @@ impl ConsoleHandle {
     }
 
     /// Holds a console.
-    #[tactic(auto, unfolding(crate::specs::Seats::consoles_of))]
-    pub fn put(&mut self, seat: Box<Seat>)
+    #[tactic(auto, unfolding(crate::specs::HeldConsoles::consoles_of))]
+    pub fn put(&mut self, console: Box<HeldConsole>)
         requires { self.old.slot.held ≡ None }
-        ensures { self.new.slot.held ≡ Some seat.value }
+        ensures { self.new.slot.held ≡ Some console.value }
     {
-        self.slot = SeatSlot::of(seat);
+        self.slot = ConsoleSlot::of(console);
         self.consoles = 1;
     }
 
     /// Holds a console in the place of what it held.
-    pub fn hold(&mut self, alloc: Global, seat: Box<Seat>)
-        ensures { self.new.slot.held ≡ Some seat.value }
+    pub fn hold(&mut self, alloc: Global, console: Box<HeldConsole>)
+        ensures { self.new.slot.held ≡ Some console.value }
     {
         drop(self.take(alloc));
-        self.put(seat);
+        self.put(console);
     }
 }
 
 /// How a dialogue is held, by C's numbers.
-#[tactic(auto, unfolding(crate::specs::Seats::settings_of))]
+#[tactic(auto, unfolding(crate::specs::HeldConsoles::settings_of))]
 fn settings_of(manner: u32, strict: u32, saveless: u32, talk: u32) -> Settings
     ensures { result ≡ settings_of manner strict saveless talk }
 {
@@ -84,7 +84,7 @@ fn settings_of(manner: u32, strict: u32, saveless: u32, talk: u32) -> Settings
 /// # Errors
 ///
 /// `BadSize` for sizes that no machine has, and for a number that no manner has; and `NoMemory`.
-pub fn new_seat(
+pub fn new_console(
     alloc: Global,
     kwords: u32,
     lines: u32,
@@ -92,10 +92,10 @@ pub fn new_seat(
     strict: u32,
     saveless: u32,
     talk: u32,
-) -> Result<Box<Seat>, Status>
-    ensures ok { IfOk result (λ seat. (held : Seated) →
-        OpensConsole (wished kwords lines manner strict saveless talk) Status.Done held (Some seat.value)) }
-    ensures err { IfErr result (λ status. (held : Seated) →
+) -> Result<Box<HeldConsole>, Status>
+    ensures ok { IfOk result (λ console. (held : HeldDialogue) →
+        OpensConsole (wished kwords lines manner strict saveless talk) Status.Done held (Some console.value)) }
+    ensures err { IfErr result (λ status. (held : HeldDialogue) →
         OpensConsole (wished kwords lines manner strict saveless talk) status held held) }
 {
     let Ok(config) = Config::new(kwords, lines) else {
@@ -107,9 +107,9 @@ pub fn new_seat(
     let Ok(panel) = Panel::new(alloc, config) else {
         return Err(Status::NoMemory);
     };
-    let seat = Seat::new(alloc, panel, settings_of(manner, strict, saveless, talk));
-    match Box::new(alloc, seat) {
-        Ok(seat) => Ok(seat),
+    let console = HeldConsole::new(alloc, panel, settings_of(manner, strict, saveless, talk));
+    match Box::new(alloc, console) {
+        Ok(console) => Ok(console),
         Err(_) => Err(Status::NoMemory),
     }
 }

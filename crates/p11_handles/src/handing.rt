@@ -1,7 +1,7 @@
 // What is handed out of a console.
 ghost use Rattle.std.specs.Prelude.{option_copied};
 ghost use Rattle.p11_handles.specs.Calls.{lent};
-ghost use Rattle.p11_handles.specs.SeatCalls.{HandsDevices, HandsFront, HandsWanted};
+ghost use Rattle.p11_handles.specs.ConsoleCalls.{HandsDevices, HandsFront, HandsWanted};
 
 use crate::handle::hand_text;
 use crate::run::answer_text;

@@ -4,7 +4,7 @@ ghost use Rattle.p11_handles.specs.Calls.{lent};
 ghost use Rattle.p11_handles.specs.Held.{Held, machines_of};
 ghost use Rattle.p11_handles.specs.HeldCalls.{HandsText, HandsTyped, HandsFiles, HandsFile, Opens};
 
-use crate::desk::Desk;
+use crate::held_machine::HeldMachine;
 use crate::rows::read_row;
 use crate::slot::Slot;
 use crate::status::Status;
@@ -35,8 +35,8 @@ impl Drop for Handle {
 impl Handle {
     /// Takes what it holds.
     #[tactic(auto, unfolding(crate::specs::Held::machines_of))]
-    pub fn take(&mut self, alloc: Global) -> Option<Box<Desk>>
-        ensures taken { MatchOption result (self.old.slot.held ≡ None) (λ desk. self.old.slot.held ≡ Some desk.value) }
+    pub fn take(&mut self, alloc: Global) -> Option<Box<HeldMachine>>
+        ensures taken { MatchOption result (self.old.slot.held ≡ None) (λ machine. self.old.slot.held ≡ Some machine.value) }
         ensures none { self.new.slot.held ≡ None }
     {
         let machines = self.machines;
@@ -51,20 +51,20 @@ impl Handle {
 
     /// Holds a machine.
     #[tactic(auto, unfolding(crate::specs::Held::machines_of))]
-    pub fn put(&mut self, desk: Box<Desk>)
+    pub fn put(&mut self, machine: Box<HeldMachine>)
         requires { self.old.slot.held ≡ None }
-        ensures { self.new.slot.held ≡ Some desk.value }
+        ensures { self.new.slot.held ≡ Some machine.value }
     {
-        self.slot = Slot::of(desk);
+        self.slot = Slot::of(machine);
         self.machines = 1;
     }
 
     /// Holds a machine in the place of what it held.
-    pub fn hold(&mut self, alloc: Global, desk: Box<Desk>)
-        ensures { self.new.slot.held ≡ Some desk.value }
+    pub fn hold(&mut self, alloc: Global, machine: Box<HeldMachine>)
+        ensures { self.new.slot.held ≡ Some machine.value }
     {
         drop(self.take(alloc));
-        self.put(desk);
+        self.put(machine);
     }
 }
 
@@ -73,8 +73,13 @@ impl Handle {
 /// # Errors
 ///
 /// `BadSize` for sizes that no machine has, then `BadFiles` for bytes that are no row of files; and `NoMemory`.
-pub fn new_desk(alloc: Global, kwords: u32, lines: u32, files: &[u8]) -> Result<Box<Desk>, Status>
-    ensures ok { IfOk result (λ desk. (held : Held) → Opens kwords lines files.now Status.Done held (Some desk.value)) }
+pub fn new_machine(
+    alloc: Global,
+    kwords: u32,
+    lines: u32,
+    files: &[u8],
+) -> Result<Box<HeldMachine>, Status>
+    ensures ok { IfOk result (λ machine. (held : Held) → Opens kwords lines files.now Status.Done held (Some machine.value)) }
     ensures err { IfErr result (λ status. (held : Held) → Opens kwords lines files.now status held held) }
 {
     let Ok(config) = Config::new(kwords, lines) else {
@@ -84,11 +89,11 @@ pub fn new_desk(alloc: Global, kwords: u32, lines: u32, files: &[u8]) -> Result<
         Ok(files) => files,
         Err(status) => return Err(status),
     };
-    let Ok(desk) = Desk::new(alloc, config, files) else {
+    let Ok(machine) = HeldMachine::new(alloc, config, files) else {
         return Err(Status::NoMemory);
     };
-    match Box::new(alloc, desk) {
-        Ok(desk) => Ok(desk),
+    match Box::new(alloc, machine) {
+        Ok(machine) => Ok(machine),
         Err(_) => Err(Status::NoMemory),
     }
 }
@@ -117,20 +122,30 @@ pub fn hand_typed(alloc: Global, text: &[u8], out: &mut [u8], out_length: &mut u
 }
 
 /// Copies the row of a machine's files into the caller's buffer, if that has room for it; it is told the length.
-pub fn hand_files(alloc: Global, desk: &Desk, out: &mut [u8], out_length: &mut usize) -> Status
-    ensures { HandsFiles result desk.now.files (lent out.old out_length.old) (lent out.new out_length.new) }
+pub fn hand_files(
+    alloc: Global,
+    machine: &HeldMachine,
+    out: &mut [u8],
+    out_length: &mut usize,
+) -> Status
+    ensures { HandsFiles result machine.now.files (lent out.old out_length.old) (lent out.new out_length.new) }
 {
-    match desk.files(alloc) {
+    match machine.files(alloc) {
         Ok(row) => hand_text(row.as_slice(), out, out_length),
         Err(_) => Status::NoMemory,
     }
 }
 
 /// Copies the last bytes under a name into the caller's buffer, if that has room for them; it is told the length.
-pub fn hand_file(desk: &Desk, name: &[u8], out: &mut [u8], out_length: &mut usize) -> Status
-    ensures { HandsFile result desk.now.files name.now (lent out.old out_length.old) (lent out.new out_length.new) }
+pub fn hand_file(
+    machine: &HeldMachine,
+    name: &[u8],
+    out: &mut [u8],
+    out_length: &mut usize,
+) -> Status
+    ensures { HandsFile result machine.now.files name.now (lent out.old out_length.old) (lent out.new out_length.new) }
 {
-    match desk.file(name) {
+    match machine.file(name) {
         Some(bytes) => hand_text(bytes, out, out_length),
         None => Status::NoFile,
     }

@@ -1,12 +1,12 @@
 // C's numbers for what a console wants, and for what its host answers.
 ghost use Rattle.std.specs.Prelude.{◌≡◌, min};
-ghost use Rattle.p11_handles.specs.SeatCalls.{number_of_want, number_of_bool, number_of_put, error_of};
+ghost use Rattle.p11_handles.specs.ConsoleCalls.{number_of_want, number_of_bool, number_of_put, error_of};
 
 use p11_console::{PutFault, Trouble, Want};
 use p11_panel::StoreError;
 
 /// The number by which C knows what a console wants.
-#[tactic(auto, unfolding(crate::specs::SeatCalls::number_of_want))]
+#[tactic(auto, unfolding(crate::specs::ConsoleCalls::number_of_want))]
 pub fn number_of_want(want: Want) -> u32
     ensures { result ≡ number_of_want want }
 {
@@ -23,7 +23,7 @@ pub fn number_of_want(want: Want) -> u32
 }
 
 /// Yes is 1.
-#[tactic(auto, unfolding(crate::specs::SeatCalls::number_of_bool))]
+#[tactic(auto, unfolding(crate::specs::ConsoleCalls::number_of_bool))]
 pub fn number_of_bool(is_so: bool) -> u32
     ensures { result ≡ number_of_bool is_so }
 {
@@ -44,7 +44,7 @@ fn reason_of(trouble: u32) -> &'static str {
 }
 
 /// Why the host has no bytes of a file.
-#[tactic(auto, unfolding(crate::specs::SeatCalls::error_of))]
+#[tactic(auto, unfolding(crate::specs::ConsoleCalls::error_of))]
 pub(crate) fn trouble_of(trouble: u32) -> Trouble
     ensures { result.error ≡ error_of trouble }
 {
@@ -59,7 +59,7 @@ pub(crate) fn trouble_of(trouble: u32) -> Trouble
 }
 
 /// What became of a file that was to be written: 0, it is; 1, one is there; else it can't be.
-#[tactic(auto, unfolding(crate::specs::SeatCalls::number_of_put))]
+#[tactic(auto, unfolding(crate::specs::ConsoleCalls::number_of_put))]
 pub(crate) fn put_of(trouble: u32) -> Result<(), PutFault>
     ensures { number_of_put result ≡ min trouble 2 }
 {

@@ -1,15 +1,15 @@
-// A desk behind a pointer of C's.
+// A machine behind a pointer of C's.
 ghost use Rattle.std.specs.Prelude.{◌≡◌, None, Some};
 ghost use Rattle.p11_handles.specs.Held.{Held, machines_of};
 ghost use Rattle.p11_handles.specs.Slots.{slot_owns, held_coded};
 
-use crate::desk::Desk;
-use crate::loose::Loose;
+use crate::held_machine::HeldMachine;
+use crate::raw_box::RawBox;
 use std::alloc::Global;
 use std::marker::Model;
 use std::ptr::null_mut;
 
-/// A pointer to a boxed desk, which the slot owns, or one to nothing.
+/// A pointer to a boxed machine, which the slot owns, or one to nothing.
 #[repr(C)]
 #[derive(Drop)]
 pub struct Slot {
@@ -33,41 +33,41 @@ impl Slot {
         }
     }
 
-    /// A slot that holds a desk, of its box taken apart.
-    fn of_loose(loose: Loose<Desk, Global>) -> Slot
-        ensures { result.held ≡ Some loose.value }
+    /// A slot that holds a machine, of its box taken apart.
+    fn of_raw(raw_box: RawBox<HeldMachine, Global>) -> Slot
+        ensures { result.held ≡ Some raw_box.value }
     {
-        let Loose { at, alloc } = loose;
+        let RawBox { at, alloc } = raw_box;
         Slot {
             at: at as *mut u8,
             alloc,
         }
     }
 
-    /// The box of the desk that it holds, taken apart.
-    fn into_loose(self) -> Loose<Desk, Global>
+    /// The box of the machine that it holds, taken apart.
+    fn into_raw(self) -> RawBox<HeldMachine, Global>
         requires { machines_of self.held ≡ 1 }
         ensures { self.held ≡ Some result.value }
     {
         let Slot { at, alloc } = self;
-        Loose {
-            at: at as *mut Desk,
+        RawBox {
+            at: at as *mut HeldMachine,
             alloc,
         }
     }
 
-    /// A slot that holds a desk.
-    pub(crate) fn of(desk: Box<Desk>) -> Slot
-        ensures { result.held ≡ Some desk.value }
+    /// A slot that holds a machine.
+    pub(crate) fn of(machine: Box<HeldMachine>) -> Slot
+        ensures { result.held ≡ Some machine.value }
     {
-        Slot::of_loose(Loose::of(desk))
+        Slot::of_raw(RawBox::of(machine))
     }
 
-    /// The desk that it holds.
-    pub(crate) fn into_box(self) -> Box<Desk>
+    /// The machine that it holds.
+    pub(crate) fn into_box(self) -> Box<HeldMachine>
         requires { machines_of self.held ≡ 1 }
         ensures { self.held ≡ Some result.value }
     {
-        self.into_loose().into_box()
+        self.into_raw().into_box()
     }
 }

@@ -4,12 +4,12 @@ use Rattle.std.specs.Prelude.{ℕ, ◌-◌, Bool, ◌&&◌, ◌||◌, nat_lt, na
 use Rattle.p11_line_editor.specs.Keys.{plain_key, letter_key, number_key}
 use Rattle.p11_line_editor.specs.declared.key.Key.{Key}
 use Rattle.p11_line_editor.specs.declared.key.Key.TheVariants.{Refused}
-use Rattle.p11_line_editor.specs.declared.decoder.Phase.{Phase}
-use Rattle.p11_line_editor.specs.declared.decoder.Phase.TheVariants.{Start, Escape, Lone, Application, Sequence, Longer, Message, Character}
+use Rattle.p11_line_editor.specs.declared.decoder.DecoderPhase.{DecoderPhase}
+use Rattle.p11_line_editor.specs.declared.decoder.DecoderPhase.TheVariants.{Start, Escape, Lone, Application, Sequence, Longer, Message, Character}
 
 -- the phase behind a byte, and the key that the byte ends
 abbrev pub Step : Type 0
-Step = Phase × Option Key
+Step = DecoderPhase × Option Key
 
 abbrev pub within : ℕ → ℕ → ℕ → Bool
 within low high byte = nat_le low byte && nat_le byte high
@@ -66,7 +66,7 @@ in_character left byte =
     if nat_le left 1 then (Start, None) else (Character (left - 1), None))
 
 -- what a byte is behind the bytes before it
-unfoldable pub decoded : Phase → ℕ → Step
+unfoldable pub decoded : DecoderPhase → ℕ → Step
 decoded Start byte = first_of byte
 decoded Escape byte = behind_escape byte
 decoded Lone byte = behind_lone byte
@@ -77,6 +77,6 @@ decoded Message byte = in_message byte
 decoded (Character left) byte = in_character left byte
 
 -- the keyboard has nothing more for now
-abbrev pub paused : Phase → Phase
+abbrev pub paused : DecoderPhase → DecoderPhase
 paused Escape = Lone
 paused phase = phase

@@ -7,7 +7,7 @@ use crate::key::{Key, letter_key, number_key, plain_key};
 
 /// What the bytes so far are the beginning of.
 #[derive(Clone, Copy, PartialEq, Eq)]
-pub enum Phase {
+pub enum DecoderPhase {
     /// Nothing.
     Start,
     /// An escape sequence of which ESC alone is there.
@@ -29,16 +29,16 @@ pub enum Phase {
 /// Makes keys of bytes. An escape sequence and a character that isn't ASCII are one key or none.
 #[derive(Clone, Copy)]
 pub struct Decoder {
-    pub(crate) phase: Phase,
+    pub(crate) phase: DecoderPhase,
 }
 
 impl Decoder {
     /// No byte has come.
     pub fn new() -> Self
-        ensures { result.phase ≡ Phase.Start }
+        ensures { result.phase ≡ DecoderPhase.Start }
     {
         Decoder {
-            phase: Phase::Start,
+            phase: DecoderPhase::Start,
         }
     }
 
@@ -55,72 +55,72 @@ impl Decoder {
     pub fn pause(&mut self)
         ensures { self.new.phase ≡ paused self.old.phase }
     {
-        if let Phase::Escape = self.phase {
-            self.phase = Phase::Lone;
+        if let DecoderPhase::Escape = self.phase {
+            self.phase = DecoderPhase::Lone;
         }
     }
 }
 
 /// A byte behind what a phase has.
 #[tactic(auto, unfolding(crate::specs::Decoding::decoded))]
-fn step(phase: Phase, byte: u8) -> (Phase, Option<Key>)
+fn step(phase: DecoderPhase, byte: u8) -> (DecoderPhase, Option<Key>)
     ensures { result ≡ decoded phase byte }
 {
     match phase {
-        Phase::Start => first(byte),
-        Phase::Escape => behind_escape(byte),
-        Phase::Lone => behind_lone(byte),
-        Phase::Application => in_application(byte),
-        Phase::Sequence { digit } => in_sequence(digit, byte),
-        Phase::Longer => in_longer(byte),
-        Phase::Message => in_message(byte),
-        Phase::Character { left } => in_character(left, byte),
+        DecoderPhase::Start => first(byte),
+        DecoderPhase::Escape => behind_escape(byte),
+        DecoderPhase::Lone => behind_lone(byte),
+        DecoderPhase::Application => in_application(byte),
+        DecoderPhase::Sequence { digit } => in_sequence(digit, byte),
+        DecoderPhase::Longer => in_longer(byte),
+        DecoderPhase::Message => in_message(byte),
+        DecoderPhase::Character { left } => in_character(left, byte),
     }
 }
 
 /// A byte where no sequence has begun.
-fn first(byte: u8) -> (Phase, Option<Key>)
+fn first(byte: u8) -> (DecoderPhase, Option<Key>)
     ensures { result ≡ first_of byte }
 {
     if byte == 0o33 {
-        return (Phase::Escape, None);
+        return (DecoderPhase::Escape, None);
     }
     if 0o302 <= byte && byte <= 0o337 {
-        return (Phase::Character { left: 1 }, Some(Key::Refused));
+        return (DecoderPhase::Character { left: 1 }, Some(Key::Refused));
     }
     if 0o340 <= byte && byte <= 0o357 {
-        return (Phase::Character { left: 2 }, Some(Key::Refused));
+        return (DecoderPhase::Character { left: 2 }, Some(Key::Refused));
     }
     if 0o360 <= byte && byte <= 0o364 {
-        return (Phase::Character { left: 3 }, Some(Key::Refused));
+        return (DecoderPhase::Character { left: 3 }, Some(Key::Refused));
     }
-    (Phase::Start, Some(plain_key(byte)))
+    (DecoderPhase::Start, Some(plain_key(byte)))
 }
 
 /// A byte behind ESC.
-fn behind_escape(byte: u8) -> (Phase, Option<Key>)
+fn behind_escape(byte: u8) -> (DecoderPhase, Option<Key>)
     ensures { result ≡ behind_escape byte }
 {
     if byte == b'[' {
-        return (Phase::Sequence { digit: 0 }, None);
+        return (DecoderPhase::Sequence { digit: 0 }, None);
     }
     if byte == b'O' {
-        return (Phase::Application, None);
+        return (DecoderPhase::Application, None);
     }
     if byte == b'P' || byte == b'X' || byte == b']' || byte == b'^' || byte == b'_' {
-        return (Phase::Message, None);
+        return (DecoderPhase::Message, None);
     }
     if 0o40 <= byte && byte <= 0o57 {
-        return (Phase::Longer, None);
+        return (DecoderPhase::Longer, None);
     }
     if 0o60 <= byte && byte <= 0o176 {
-        return (Phase::Start, None);
+        return (DecoderPhase::Start, None);
     }
     first(byte)
 }
 
 /// A byte behind an ESC that stood alone: of a sequence that was cut, or the next key.
-fn behind_lone(byte: u8) -> (Phase, Option<Key>)
+fn behind_lone(byte: u8) -> (DecoderPhase, Option<Key>)
     ensures { result ≡ behind_lone byte }
 {
     if byte == b'[' || byte == b'O' {
@@ -131,72 +131,72 @@ fn behind_lone(byte: u8) -> (Phase, Option<Key>)
 }
 
 /// A byte behind ESC and O.
-fn in_application(byte: u8) -> (Phase, Option<Key>)
+fn in_application(byte: u8) -> (DecoderPhase, Option<Key>)
     ensures { result ≡ in_application byte }
 {
     if 0o60 <= byte && byte <= 0o77 {
-        return (Phase::Application, None);
+        return (DecoderPhase::Application, None);
     }
     if 0o40 <= byte && byte <= 0o176 {
-        return (Phase::Start, letter_key(byte));
+        return (DecoderPhase::Start, letter_key(byte));
     }
     first(byte)
 }
 
 /// A byte behind ESC and [ and at most one digit.
-fn in_sequence(digit: u8, byte: u8) -> (Phase, Option<Key>)
+fn in_sequence(digit: u8, byte: u8) -> (DecoderPhase, Option<Key>)
     ensures { result ≡ in_sequence digit byte }
 {
     if digit == 0 && byte == b'[' {
-        return (Phase::Longer, None);
+        return (DecoderPhase::Longer, None);
     }
     if digit == 0 && b'1' <= byte && byte <= b'9' {
-        return (Phase::Sequence { digit: byte - b'0' }, None);
+        return (DecoderPhase::Sequence { digit: byte - b'0' }, None);
     }
     if byte == b'~' {
-        return (Phase::Start, number_key(digit));
+        return (DecoderPhase::Start, number_key(digit));
     }
     if digit == 0 && 0o100 <= byte && byte <= 0o176 {
-        return (Phase::Start, letter_key(byte));
+        return (DecoderPhase::Start, letter_key(byte));
     }
     in_longer(byte)
 }
 
 /// A byte in a sequence that means no key.
-fn in_longer(byte: u8) -> (Phase, Option<Key>)
+fn in_longer(byte: u8) -> (DecoderPhase, Option<Key>)
     ensures { result ≡ in_longer byte }
 {
     if 0o40 <= byte && byte <= 0o77 {
-        return (Phase::Longer, None);
+        return (DecoderPhase::Longer, None);
     }
     if 0o100 <= byte && byte <= 0o176 {
-        return (Phase::Start, None);
+        return (DecoderPhase::Start, None);
     }
     first(byte)
 }
 
 /// A byte in a text for the terminal, which BEL or another control character ends.
-fn in_message(byte: u8) -> (Phase, Option<Key>)
+fn in_message(byte: u8) -> (DecoderPhase, Option<Key>)
     ensures { result ≡ in_message byte }
 {
     if byte == 0o7 {
-        return (Phase::Start, None);
+        return (DecoderPhase::Start, None);
     }
     if byte < 0o40 {
         return first(byte);
     }
-    (Phase::Message, None)
+    (DecoderPhase::Message, None)
 }
 
 /// A byte in a character that isn't ASCII.
-fn in_character(left: u8, byte: u8) -> (Phase, Option<Key>)
+fn in_character(left: u8, byte: u8) -> (DecoderPhase, Option<Key>)
     ensures { result ≡ in_character left byte }
 {
     if byte < 0o200 || 0o277 < byte {
         return first(byte);
     }
     if left <= 1 {
-        return (Phase::Start, None);
+        return (DecoderPhase::Start, None);
     }
-    (Phase::Character { left: left - 1 }, None)
+    (DecoderPhase::Character { left: left - 1 }, None)
 }

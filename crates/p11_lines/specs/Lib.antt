@@ -2,6 +2,7 @@
 pub mod AnswerText
 pub mod FaultTable
 pub mod Escapes
+pub mod LineEnd
 pub mod Grammar
 pub mod Reading
 pub mod Writers

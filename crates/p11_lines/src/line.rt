@@ -3,6 +3,9 @@ use crate::bytes::Bytes;
 use crate::words::Words;
 use std::alloc::{Allocator, Global};
 
+/// The most turns of a run (decimal).
+pub const MOST_TURNS: u32 = 100_000_000;
+
 /// A line of a script. Addresses, words and numbers of drives are octal in the text, counts and turns decimal.
 #[derive(Drop)]
 #[derive_where(PartialEq, Eq)]

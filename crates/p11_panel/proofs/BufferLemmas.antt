@@ -3,7 +3,7 @@ use Rattle.std.proofs.Common.{◌≡◌, ◌≤◌, ◌<◌, ◌+◌, ◌-◌, a
 use Rattle.std.proofs.lemmas.Bool.{cases_Bool, cases_lt, cases_eq, cases_cond, cond_both, leb-false, lt-ltb, le-leb, lt-leb, le-ltb}
 use Rattle.std.proofs.lemmas.List.{length-take, length_push}
 use Rattle.p11_panel.specs.Kept.Buffer.{kept, pushed}
-use Rattle.p11_panel.specs.Script.{without_cr}
+use Rattle.p11_lines.specs.LineEnd.{without_cr}
 
 none_some : {X : Type 0} {x : X} → ◌≡◌ {A = Option X} None (Some x) → ⊥
 none_some e = cc

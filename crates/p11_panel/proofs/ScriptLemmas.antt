@@ -4,7 +4,8 @@ use Rattle.std.proofs.lemmas.Bool.{cases_Bool}
 use Rattle.std.proofs.lemmas.List.{length_push, map_push}
 use Rattle.std.specs.List.{onto_first}
 use Rattle.p11_panel.specs.Kept.Pieces.{Pieces, in_front, cut_at_lf}
-use Rattle.p11_panel.specs.Script.{pieces_of, without_cr, ended_lines, script_lines}
+use Rattle.p11_lines.specs.LineEnd.{without_cr}
+use Rattle.p11_panel.specs.Script.{pieces_of, ended_lines, script_lines}
 
 -- pieces after one byte more
 abbrev pub and_byte : Bool → Pieces → ℕ → Pieces

@@ -20,7 +20,8 @@ use Rattle.p11_panel.specs.Kept.Buffer.{kept, pushed}
 use Rattle.p11_panel.specs.Readers.{ReaderState, Reads, GivesSome, gave, ended, failed}
 use Rattle.p11_panel.specs.declared.read_call.ReadCall.{ReadCall}
 use Rattle.p11_panel.specs.Kept.Pieces.{cut_at_lf}
-use Rattle.p11_panel.specs.Script.{without_cr, ended_lines, script_lines}
+use Rattle.p11_lines.specs.LineEnd.{without_cr}
+use Rattle.p11_panel.specs.Script.{ended_lines, script_lines}
 use Rattle.p11_panel.specs.Session.{SessionState, has_answer, LineDoes, LinesRun, ScriptDone, ScriptCut, texts_of}
 use Rattle.p11_panel.specs.Kept.Standing.{Stands}
 use Rattle.p11_panel.proofs.BufferLemmas.{kept_nil, kept_push}

@@ -1,14 +1,12 @@
 -- The lines of a script: the pieces that LF (10) ends, without a CR (13) just before it, and at the end of the script
 -- the piece after the last LF.
-use Rattle.std.specs.Prelude.{ℕ, ◌-◌, nat_eq, List, ◌++◌, length, map, take, drop, slice_index, if◌then◌else◌}
+use Rattle.std.specs.Prelude.{ℕ, ◌-◌, nat_eq, List, ◌++◌, length, map, take, drop}
 use Rattle.std.specs.List.{slice_split}
+use Rattle.p11_lines.specs.LineEnd.{without_cr}
 
 -- the pieces between the LFs: there is one more of them than of LFs
 abbrev pub pieces_of : List ℕ → List (List ℕ)
 pieces_of bytes = slice_split (λ byte. nat_eq byte 10) bytes
-
-unfoldable pub without_cr : List ℕ → List ℕ
-without_cr piece = if nat_eq (slice_index piece (length piece - 1)) 13 then take (length piece - 1) piece else piece
 
 -- the lines that LF ended
 unfoldable pub ended_lines : List ℕ → List (List ℕ)

@@ -29,14 +29,13 @@ pub use laws::{
     the_number_of_lines_shows_nothing,
 };
 pub use p11_lines::{
-    Answer, Bytes, Devices, Fault, Line, ManagementRegisters, Mark, NoMemory, Registers, Sink,
-    StdWriter, StopReason, Words, line_of, parse_line,
+    Answer, Bytes, Devices, Fault, Line, MOST_TURNS, ManagementRegisters, Mark, NoMemory,
+    Registers, Sink, StdWriter, StopReason, Words, line_of, parse_line,
 };
 pub use p11_store::{MemoryStore, Refusals, Store, StoreError};
 pub use p11_unibus::{BusDevices, DiskRegisters, DriveShown};
 pub use panel::Panel;
 pub use playing::play;
 pub use read_call::ReadCall;
-pub use refusal::MOST_TURNS;
 pub use script::{SessionFault, session};
 pub use source::{Source, StdReader, ToldReads};

@@ -5,15 +5,12 @@ ghost use Rattle.p11_panel.specs.Ranges.{examine_fault, deposit_fault};
 ghost use Rattle.p11_panel.specs.Runs.{step_fault};
 
 use crate::panel::Panel;
-use p11_lines::Fault;
+use p11_lines::{Fault, MOST_TURNS};
 use std::alloc::Allocator;
 
 const MOST_EXAMINED: u32 = 512;
 
 const MOST_DEPOSITED: usize = 64;
-
-/// The most turns of a run.
-pub const MOST_TURNS: u32 = 100_000_000;
 
 const LAST_TURN: u64 = 0x4000_0000_0000_0000;
 

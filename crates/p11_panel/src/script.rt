@@ -4,7 +4,8 @@ ghost use Rattle.std.specs.Prelude.{IfOk, OnErr, IsErrOf};
 ghost use Rattle.std.specs.Io.KnownBytes.{IsAtEnd};
 ghost use Rattle.p11_lines.specs.Writers.{WriterState};
 ghost use Rattle.p11_panel.specs.Kept.Buffer.{kept};
-ghost use Rattle.p11_panel.specs.Script.{without_cr, ended_lines, script_lines};
+ghost use Rattle.p11_lines.specs.LineEnd.{without_cr};
+ghost use Rattle.p11_panel.specs.Script.{ended_lines, script_lines};
 ghost use Rattle.p11_panel.specs.Readers.{Reads, ended, failed};
 ghost use Rattle.p11_panel.specs.Session.{SessionState, with_store, LineDoes, ScriptDone, ScriptCut};
 ghost use Rattle.p11_panel.specs.Kept.Standing.{Stands};
@@ -13,7 +14,7 @@ use crate::answering::do_line;
 use crate::line_buffer::LineBuffer;
 use crate::panel::Panel;
 use crate::source::Source;
-use p11_lines::{Answer, Broken, Fault, Sink, put_answer};
+use p11_lines::{Answer, Broken, Fault, Sink, put_answer, without_return};
 use p11_store::Store;
 use std::alloc::Allocator;
 use thiserror::Error;
@@ -41,21 +42,6 @@ impl From<Broken> for SessionFault {
 
 const MOST_READS: u32 = 1_000_000;
 
-/// A piece without the CR at its end.
-#[tactic(auto, unfolding(crate::specs::Script::without_cr))]
-fn trimmed(piece: &[u8]) -> &[u8]
-    ensures { result.now ≡ without_cr piece.now }
-{
-    let len = piece.len();
-    if len == 0 {
-        return piece;
-    }
-    if piece[len - 1] == b'\r' {
-        return &piece[..len - 1];
-    }
-    piece
-}
-
 /// Does the line that LF has ended.
 fn end_line<A: Allocator + Copy, S: Store>(
     alloc: A,
@@ -68,7 +54,7 @@ fn end_line<A: Allocator + Copy, S: Store>(
 {
     match buffer.get() {
         None => Some(Answer::Refused(Fault::BadLine)),
-        Some(piece) => do_line(alloc, panel, store, trimmed(piece)),
+        Some(piece) => do_line(alloc, panel, store, without_return(piece)),
     }
 }
 

@@ -9,9 +9,9 @@ ghost use Rattle.p11_phrases.specs.Phrases.{range_filled, filled, one_deposited,
 use crate::examine::{second, words_between};
 use crate::lines::{copies, fill_line, set_lines, words_of_text};
 use crate::phrase::{Phrase, becoming, in_full};
-use crate::place::Place;
+use crate::place::ExaminedPlace;
 use crate::refusal::Refusal;
-use crate::span::{Span, Spot, are_registers, span_of};
+use crate::span::{Location, Span, are_registers, span_of};
 use crate::verb::DEPOSIT;
 use std::alloc::Allocator;
 
@@ -21,7 +21,7 @@ const MOST_WORDS: u32 = 64;
 /// What a line means that begins with `deposit`.
 pub(crate) fn deposited<A: Allocator + Copy>(
     alloc: A,
-    place: Place,
+    place: ExaminedPlace,
     text: &[u8],
 ) -> Result<Phrase<A>, Refusal>
     ensures { Gives result (deposited place text.now (behind_second text.now) (span_of A (first_word (arguments text.now)))) }
@@ -29,7 +29,7 @@ pub(crate) fn deposited<A: Allocator + Copy>(
     let (word, rest) = second(text);
     match span_of(alloc, word) {
         None => in_full(alloc, place, DEPOSIT, text),
-        Some(Span::One(spot)) => one_deposited(alloc, place, text, rest, spot),
+        Some(Span::One(location)) => one_deposited(alloc, place, text, rest, location),
         Some(Span::Range(first, last)) => filled(alloc, place, first, last, rest),
     }
 }
@@ -37,24 +37,24 @@ pub(crate) fn deposited<A: Allocator + Copy>(
 /// Words are deposited from one place on.
 fn one_deposited<A: Allocator + Copy>(
     alloc: A,
-    place: Place,
+    place: ExaminedPlace,
     text: &[u8],
     rest: &[u8],
-    spot: Spot,
+    location: Location,
 ) -> Result<Phrase<A>, Refusal>
-    ensures { Gives result (one_deposited place text.now rest.now spot) }
+    ensures { Gives result (one_deposited place text.now rest.now location) }
 {
-    match spot {
-        Spot::Word(_) => in_full(alloc, place, DEPOSIT, text),
-        Spot::Register(number) => words_set(alloc, place, number, rest),
-        Spot::Missing => Err(Refusal::NoRegister),
+    match location {
+        Location::Word(_) => in_full(alloc, place, DEPOSIT, text),
+        Location::Register(number) => words_set(alloc, place, number, rest),
+        Location::Missing => Err(Refusal::NoRegister),
     }
 }
 
 /// Words are put into registers from one on.
 fn words_set<A: Allocator + Copy>(
     alloc: A,
-    place: Place,
+    place: ExaminedPlace,
     first: u16,
     rest: &[u8],
 ) -> Result<Phrase<A>, Refusal>
@@ -70,7 +70,7 @@ fn words_set<A: Allocator + Copy>(
 /// Words are put into registers, if they are there.
 fn set_from<A: Allocator + Copy>(
     alloc: A,
-    place: Place,
+    place: ExaminedPlace,
     first: u16,
     words: &[u16],
 ) -> Result<Phrase<A>, Refusal>
@@ -89,9 +89,9 @@ fn set_from<A: Allocator + Copy>(
 /// One word is put into each place of a range.
 fn filled<A: Allocator + Copy>(
     alloc: A,
-    place: Place,
-    first: Spot,
-    last: Spot,
+    place: ExaminedPlace,
+    first: Location,
+    last: Location,
     rest: &[u8],
 ) -> Result<Phrase<A>, Refusal>
     ensures { Gives result (filled place first last (words_of_text A rest.now)) }
@@ -106,9 +106,9 @@ fn filled<A: Allocator + Copy>(
 /// This word is put into each place of a range, if it is one.
 fn filled_with<A: Allocator + Copy>(
     alloc: A,
-    place: Place,
-    first: Spot,
-    last: Spot,
+    place: ExaminedPlace,
+    first: Location,
+    last: Location,
     words: &[u16],
 ) -> Result<Phrase<A>, Refusal>
     ensures { Gives result (filled place first last (Some words.now)) }
@@ -121,56 +121,56 @@ fn filled_with<A: Allocator + Copy>(
 
 fn range_filled<A: Allocator + Copy>(
     alloc: A,
-    place: Place,
+    place: ExaminedPlace,
     word: u16,
-    first: Spot,
-    last: Spot,
+    first: Location,
+    last: Location,
 ) -> Result<Phrase<A>, Refusal>
     ensures { Gives result (range_filled place word first last) }
 {
     match first {
-        Spot::Word(first) => words_filled_to(alloc, place, word, first, last),
-        Spot::Register(first) => registers_filled_to(alloc, place, word, first, last),
-        Spot::Missing => Err(Refusal::NoRegister),
+        Location::Word(first) => words_filled_to(alloc, place, word, first, last),
+        Location::Register(first) => registers_filled_to(alloc, place, word, first, last),
+        Location::Missing => Err(Refusal::NoRegister),
     }
 }
 
 fn words_filled_to<A: Allocator + Copy>(
     alloc: A,
-    place: Place,
+    place: ExaminedPlace,
     word: u16,
     first: u32,
-    last: Spot,
+    last: Location,
 ) -> Result<Phrase<A>, Refusal>
     ensures { Gives result (words_filled_to place word first last) }
 {
     match last {
-        Spot::Word(last) => words_filled(alloc, place, word, first, last),
-        Spot::Register(_) => Err(Refusal::NoRegister),
-        Spot::Missing => Err(Refusal::NoRegister),
+        Location::Word(last) => words_filled(alloc, place, word, first, last),
+        Location::Register(_) => Err(Refusal::NoRegister),
+        Location::Missing => Err(Refusal::NoRegister),
     }
 }
 
 fn registers_filled_to<A: Allocator + Copy>(
     alloc: A,
-    place: Place,
+    place: ExaminedPlace,
     word: u16,
     first: u16,
-    last: Spot,
+    last: Location,
 ) -> Result<Phrase<A>, Refusal>
     ensures { Gives result (registers_filled_to place word first last) }
 {
     match last {
-        Spot::Word(_) => Err(Refusal::NoRegister),
-        Spot::Register(last) => registers_filled(alloc, place, word, first, last),
-        Spot::Missing => Err(Refusal::NoRegister),
+        Location::Word(_) => Err(Refusal::NoRegister),
+        Location::Register(last) => registers_filled(alloc, place, word, first, last),
+        Location::Missing => Err(Refusal::NoRegister),
     }
 }
 
 /// One word is put into the words from one address to another.
 fn words_filled<A: Allocator + Copy>(
     alloc: A,
-    place: Place,
+    place: ExaminedPlace,
     word: u16,
     first: u32,
     last: u32,
@@ -196,7 +196,7 @@ fn words_filled<A: Allocator + Copy>(
 /// One word is put into the registers from one to another.
 fn registers_filled<A: Allocator + Copy>(
     alloc: A,
-    place: Place,
+    place: ExaminedPlace,
     word: u16,
     first: u16,
     last: u16,

@@ -8,9 +8,9 @@ ghost use Rattle.p11_phrases.specs.Phrases.{one_examined, examined, arguments, b
 
 use crate::lines::examine_line;
 use crate::phrase::{Phrase, becoming, in_full, registers};
-use crate::place::{Place, behind_words};
+use crate::place::{ExaminedPlace, behind_words};
 use crate::refusal::Refusal;
-use crate::span::{Span, Spot, are_registers, span_of};
+use crate::span::{Location, Span, are_registers, span_of};
 use crate::verb::EXAMINE;
 use crate::words::{count_of, parted, trimmed};
 use std::alloc::Allocator;
@@ -28,7 +28,7 @@ pub(crate) fn second(text: &[u8]) -> (&[u8], &[u8])
 /// What a line means that begins with `examine`.
 pub(crate) fn examined<A: Allocator + Copy>(
     alloc: A,
-    place: Place,
+    place: ExaminedPlace,
     text: &[u8],
 ) -> Result<Phrase<A>, Refusal>
     ensures { Gives result (examined place text.now (behind_second text.now) (span_of A (first_word (arguments text.now)))) }
@@ -36,7 +36,7 @@ pub(crate) fn examined<A: Allocator + Copy>(
     let (word, rest) = second(text);
     match span_of(alloc, word) {
         None => in_full(alloc, place, EXAMINE, text),
-        Some(Span::One(spot)) => one_examined(alloc, place, text, rest, spot),
+        Some(Span::One(location)) => one_examined(alloc, place, text, rest, location),
         Some(Span::Range(first, last)) => {
             if rest.is_empty() {
                 return range_shown(alloc, first, last);
@@ -49,17 +49,17 @@ pub(crate) fn examined<A: Allocator + Copy>(
 /// One place is examined, or as many as a count says.
 fn one_examined<A: Allocator + Copy>(
     alloc: A,
-    place: Place,
+    place: ExaminedPlace,
     text: &[u8],
     rest: &[u8],
-    spot: Spot,
+    location: Location,
 ) -> Result<Phrase<A>, Refusal>
-    ensures { Gives result (one_examined place text.now rest.now spot) }
+    ensures { Gives result (one_examined place text.now rest.now location) }
 {
-    match spot {
-        Spot::Word(_) => in_full(alloc, place, EXAMINE, text),
-        Spot::Register(number) => registers_from(alloc, number, rest),
-        Spot::Missing => Err(Refusal::NoRegister),
+    match location {
+        Location::Word(_) => in_full(alloc, place, EXAMINE, text),
+        Location::Register(number) => registers_from(alloc, number, rest),
+        Location::Missing => Err(Refusal::NoRegister),
     }
 }
 
@@ -116,33 +116,37 @@ fn words_shown<A: Allocator>(alloc: A, first: u32, last: u32) -> Result<Phrase<A
     }
 }
 
-fn words_to<A: Allocator>(alloc: A, first: u32, last: Spot) -> Result<Phrase<A>, Refusal>
+fn words_to<A: Allocator>(alloc: A, first: u32, last: Location) -> Result<Phrase<A>, Refusal>
     ensures { Gives result (words_to first last) }
 {
     match last {
-        Spot::Word(last) => words_shown(alloc, first, last),
-        Spot::Register(_) => Err(Refusal::NoRegister),
-        Spot::Missing => Err(Refusal::NoRegister),
+        Location::Word(last) => words_shown(alloc, first, last),
+        Location::Register(_) => Err(Refusal::NoRegister),
+        Location::Missing => Err(Refusal::NoRegister),
     }
 }
 
-fn registers_to<A: Allocator>(alloc: A, first: u16, last: Spot) -> Result<Phrase<A>, Refusal>
+fn registers_to<A: Allocator>(alloc: A, first: u16, last: Location) -> Result<Phrase<A>, Refusal>
     ensures { Gives result (registers_to first last) }
 {
     match last {
-        Spot::Word(_) => Err(Refusal::NoRegister),
-        Spot::Register(last) => shown(alloc, u64::from(first), u64::from(last)),
-        Spot::Missing => Err(Refusal::NoRegister),
+        Location::Word(_) => Err(Refusal::NoRegister),
+        Location::Register(last) => shown(alloc, u64::from(first), u64::from(last)),
+        Location::Missing => Err(Refusal::NoRegister),
     }
 }
 
 /// The places from one to another.
-fn range_shown<A: Allocator>(alloc: A, first: Spot, last: Spot) -> Result<Phrase<A>, Refusal>
+fn range_shown<A: Allocator>(
+    alloc: A,
+    first: Location,
+    last: Location,
+) -> Result<Phrase<A>, Refusal>
     ensures { Gives result (range_shown first last) }
 {
     match first {
-        Spot::Word(first) => words_to(alloc, first, last),
-        Spot::Register(first) => registers_to(alloc, first, last),
-        Spot::Missing => Err(Refusal::NoRegister),
+        Location::Word(first) => words_to(alloc, first, last),
+        Location::Register(first) => registers_to(alloc, first, last),
+        Location::Missing => Err(Refusal::NoRegister),
     }
 }

@@ -14,7 +14,7 @@ mod verb;
 mod words;
 
 pub use phrase::{Phrase, read_phrase};
-pub use place::Place;
+pub use place::ExaminedPlace;
 pub use refusal::Refusal;
 pub use verb::{Meant, WORDS, full_word, word_meant};
 pub use words::{parted, trimmed};

@@ -9,7 +9,7 @@ ghost use Rattle.p11_phrases.specs.Phrases.{place_behind, stays, next, full, in_
 use crate::deposit::deposited;
 use crate::examine::examined;
 use crate::lines::{ended, examine_line, regs_line, spelled_line};
-use crate::place::{Place, behind_line, behind_text, behind_words};
+use crate::place::{ExaminedPlace, behind_line, behind_text, behind_words};
 use crate::refusal::Refusal;
 use crate::span::is_register_address;
 use crate::verb::{DEPOSIT, EXAMINE, Meant, full_word, word_meant};
@@ -23,18 +23,18 @@ pub struct Phrase<A: Allocator = Global> {
     /// The lines that stand in its place, each with LF; none where it is done as it was typed.
     pub lines: Option<Bytes<A>>,
     /// What an empty line shows then.
-    pub place: Place,
+    pub place: ExaminedPlace,
 }
 
 /// The line as it was typed.
-pub(crate) fn standing<A: Allocator>(place: Place) -> Phrase<A>
+pub(crate) fn standing<A: Allocator>(place: ExaminedPlace) -> Phrase<A>
     ensures { result ≡ record { lines = None; place = place } }
 {
     Phrase { lines: None, place }
 }
 
 /// Lines in its place.
-pub(crate) fn becoming<A: Allocator>(text: Vec<u8, A>, place: Place) -> Phrase<A>
+pub(crate) fn becoming<A: Allocator>(text: Vec<u8, A>, place: ExaminedPlace) -> Phrase<A>
     ensures { result ≡ record { lines = Some text.items; place = place } }
 {
     Phrase {
@@ -55,7 +55,11 @@ fn stays<A: Allocator>(line: &Line<A>) -> bool
 }
 
 /// What an empty line shows after a line of the language that stays as it is.
-fn kept_place<A: Allocator>(alloc: A, place: Place, typed: &[u8]) -> Result<Option<Place>, NoMemory>
+fn kept_place<A: Allocator>(
+    alloc: A,
+    place: ExaminedPlace,
+    typed: &[u8],
+) -> Result<Option<ExaminedPlace>, NoMemory>
     ensures { IfOk result (λ kept. kept
         ≡ (if stays (line_from {A = A} typed.now) then Some (place_behind place (line_from {A = A} typed.now)) else None)) }
 {
@@ -78,7 +82,7 @@ fn kept_place<A: Allocator>(alloc: A, place: Place, typed: &[u8]) -> Result<Opti
 #[tactic(auto, unfolding(crate::specs::Phrases::meaning))]
 pub fn read_phrase<A: Allocator + Copy>(
     alloc: A,
-    place: Place,
+    place: ExaminedPlace,
     typed: &[u8],
 ) -> Result<Phrase<A>, Refusal>
     ensures { Gives result (meaning place typed.now) }
@@ -94,7 +98,11 @@ pub fn read_phrase<A: Allocator + Copy>(
 
 /// What a text means that is no line of the language.
 #[tactic(auto, unfolding(crate::specs::Phrases::phrase_of))]
-fn phrase_of<A: Allocator + Copy>(alloc: A, place: Place, text: &[u8]) -> Result<Phrase<A>, Refusal>
+fn phrase_of<A: Allocator + Copy>(
+    alloc: A,
+    place: ExaminedPlace,
+    text: &[u8],
+) -> Result<Phrase<A>, Refusal>
     ensures { Gives result (phrase_of place text.now) }
 {
     if text.is_empty() {
@@ -107,25 +115,25 @@ fn phrase_of<A: Allocator + Copy>(alloc: A, place: Place, text: &[u8]) -> Result
 }
 
 /// What an empty line means.
-fn next<A: Allocator>(alloc: A, place: Place) -> Result<Phrase<A>, Refusal>
+fn next<A: Allocator>(alloc: A, place: ExaminedPlace) -> Result<Phrase<A>, Refusal>
     ensures { Gives result (next place) }
 {
     match place {
-        Place::Nowhere => Ok(standing(Place::Nowhere)),
-        Place::Word { address } => match examine_line(alloc, address, 1) {
+        ExaminedPlace::Nowhere => Ok(standing(ExaminedPlace::Nowhere)),
+        ExaminedPlace::Word { address } => match examine_line(alloc, address, 1) {
             Ok(text) => Ok(becoming(text, behind_words(address, 1))),
             Err(_) => Err(Refusal::NoMemory),
         },
-        Place::Registers => registers(alloc),
+        ExaminedPlace::Registers => registers(alloc),
     }
 }
 
 /// The registers in a line's place.
 pub(crate) fn registers<A: Allocator>(alloc: A) -> Result<Phrase<A>, Refusal>
-    ensures { Gives result (becomes (line.Regs ∷ []) Place.Registers) }
+    ensures { Gives result (becomes (line.Regs ∷ []) ExaminedPlace.Registers) }
 {
     match regs_line(alloc) {
-        Ok(text) => Ok(becoming(text, Place::Registers)),
+        Ok(text) => Ok(becoming(text, ExaminedPlace::Registers)),
         Err(_) => Err(Refusal::NoMemory),
     }
 }
@@ -133,7 +141,7 @@ pub(crate) fn registers<A: Allocator>(alloc: A) -> Result<Phrase<A>, Refusal>
 /// What a text means, by what its first word stands for.
 fn by_meant<A: Allocator + Copy>(
     alloc: A,
-    place: Place,
+    place: ExaminedPlace,
     text: &[u8],
     meant: Meant,
 ) -> Result<Phrase<A>, Refusal>
@@ -149,7 +157,7 @@ fn by_meant<A: Allocator + Copy>(
 /// What a text means, by its full first word.
 fn by_word<A: Allocator + Copy>(
     alloc: A,
-    place: Place,
+    place: ExaminedPlace,
     text: &[u8],
     word: usize,
 ) -> Result<Phrase<A>, Refusal>
@@ -178,7 +186,7 @@ fn full(place: usize) -> &'static [u8]
 #[tactic(auto, unfolding(crate::specs::Phrases::in_full))]
 pub(crate) fn in_full<A: Allocator + Copy>(
     alloc: A,
-    place: Place,
+    place: ExaminedPlace,
     word: usize,
     text: &[u8],
 ) -> Result<Phrase<A>, Refusal>
@@ -195,7 +203,7 @@ pub(crate) fn in_full<A: Allocator + Copy>(
 /// A word and what is behind it in the line's place.
 fn spelled<A: Allocator + Copy>(
     alloc: A,
-    place: Place,
+    place: ExaminedPlace,
     word: &[u8],
     rest: &[u8],
 ) -> Result<Phrase<A>, Refusal>

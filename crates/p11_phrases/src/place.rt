@@ -8,7 +8,7 @@ use std::alloc::Allocator;
 
 /// What an empty line shows, by what was examined last.
 #[derive(Clone, Copy, PartialEq, Eq)]
-pub enum Place {
+pub enum ExaminedPlace {
     /// Nothing was examined.
     Nowhere,
     /// The word at this address, which is behind those that were examined.
@@ -18,20 +18,20 @@ pub enum Place {
 }
 
 /// What an empty line shows after so many words from an address on.
-pub(crate) fn behind_words(address: u32, count: u32) -> Place
+pub(crate) fn behind_words(address: u32, count: u32) -> ExaminedPlace
     ensures { result ≡ behind_words address count }
 {
     let end = u64::from(address) + 2 * u64::from(count);
     if end > 0o777_777 {
-        return Place::Nowhere;
+        return ExaminedPlace::Nowhere;
     }
-    Place::Word {
+    ExaminedPlace::Word {
         address: end as u32,
     }
 }
 
 /// What it shows after a line of the language.
-pub(crate) fn behind_line<A: Allocator>(place: Place, line: &Line<A>) -> Place
+pub(crate) fn behind_line<A: Allocator>(place: ExaminedPlace, line: &Line<A>) -> ExaminedPlace
     ensures { result ≡ place_behind place (Some line.now) }
 {
     match line {
@@ -42,7 +42,11 @@ pub(crate) fn behind_line<A: Allocator>(place: Place, line: &Line<A>) -> Place
 
 /// What it shows after a text, which may be a line of the language.
 #[tactic(auto, using(crate::proofs::Unread::no_place))]
-pub(crate) fn behind_text<A: Allocator>(alloc: A, place: Place, text: &[u8]) -> Place
+pub(crate) fn behind_text<A: Allocator>(
+    alloc: A,
+    place: ExaminedPlace,
+    text: &[u8],
+) -> ExaminedPlace
     ensures { result ≡ place_behind place (line_from {A = A} text.now) }
 {
     match parse_line(alloc, text) {

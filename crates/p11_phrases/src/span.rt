@@ -3,14 +3,14 @@ ghost use Rattle.std.specs.Prelude.{◌≡◌, ◌≤◌, position, nat_eq};
 ghost use Rattle.std.specs.Map.{lookup};
 ghost use Rattle.std.specs.Str.{bytes_eq};
 ghost use Rattle.p11_phrases.specs.Registers.{register_named, other_names, is_register_address, register_at, are_registers};
-ghost use Rattle.p11_phrases.specs.Spans.{spot_at, spot_of, span_of};
+ghost use Rattle.p11_phrases.specs.Spans.{location_at, location_of, span_of};
 
 use crate::words::address_of;
 use std::alloc::Allocator;
 
 /// A place that can be examined.
 #[derive(Clone, Copy)]
-pub enum Spot {
+pub enum Location {
     /// The word at an address of the bus.
     Word(u32),
     /// A register, by the number that `set` has for it.
@@ -22,8 +22,8 @@ pub enum Spot {
 /// One place, or those from one to another.
 #[derive(Clone, Copy)]
 pub enum Span {
-    One(Spot),
-    Range(Spot, Spot),
+    One(Location),
+    Range(Location, Location),
 }
 
 /// The register of a name, by the number that `set` has for it.
@@ -88,28 +88,28 @@ fn register_at(address: u32) -> Option<u16>
 }
 
 /// The place at an address.
-pub(crate) fn spot_at(address: u32) -> Spot
-    ensures { result ≡ spot_at address }
+pub(crate) fn location_at(address: u32) -> Location
+    ensures { result ≡ location_at address }
 {
     if !is_register_address(address) {
-        return Spot::Word(address);
+        return Location::Word(address);
     }
     match register_at(address) {
-        Some(number) => Spot::Register(number),
-        None => Spot::Missing,
+        Some(number) => Location::Register(number),
+        None => Location::Missing,
     }
 }
 
 /// The place that a word names.
-#[tactic(auto, unfolding(crate::specs::Spans::spot_of))]
-fn spot_of<A: Allocator>(alloc: A, word: &[u8]) -> Option<Spot>
-    ensures { result ≡ spot_of A word.now }
+#[tactic(auto, unfolding(crate::specs::Spans::location_of))]
+fn location_of<A: Allocator>(alloc: A, word: &[u8]) -> Option<Location>
+    ensures { result ≡ location_of A word.now }
 {
     if let Some(number) = register_named(word) {
-        return Some(Spot::Register(number));
+        return Some(Location::Register(number));
     }
     match address_of(alloc, word) {
-        Some(address) => Some(spot_at(address)),
+        Some(address) => Some(location_at(address)),
         None => None,
     }
 }
@@ -127,15 +127,15 @@ pub(crate) fn span_of<A: Allocator + Copy>(alloc: A, word: &[u8]) -> Option<Span
     ensures { result ≡ span_of A word.now }
 {
     let Some(hyphen) = hyphen(word) else {
-        return match spot_of(alloc, word) {
-            Some(spot) => Some(Span::One(spot)),
+        return match location_of(alloc, word) {
+            Some(location) => Some(Span::One(location)),
             None => None,
         };
     };
-    let Some(first) = spot_of(alloc, &word[..hyphen]) else {
+    let Some(first) = location_of(alloc, &word[..hyphen]) else {
         return None;
     };
-    let Some(last) = spot_of(alloc, &word[hyphen + 1..]) else {
+    let Some(last) = location_of(alloc, &word[hyphen + 1..]) else {
         return None;
     };
     Some(Span::Range(first, last))

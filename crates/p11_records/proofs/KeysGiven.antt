@@ -5,12 +5,12 @@ use Rattle.std.proofs.lemmas.Bool.Decides.{nat_tests}
 use Rattle.std.proofs.lemmas.List.{length-append, length-take}
 use Rattle.std.proofs.lemmas.List.Elements.{All-append, All-cons, All-nil, All-take}
 use Rattle.std.proofs.lemmas.List.Quantifiers.{position-Some}
-use Rattle.p11_panel.specs.Script.{without_cr}
-use Rattle.p11_console.specs.Lines.{is_line_feed}
-use Rattle.p11_console.specs.Runs.{before_escape, course_of, has_escape, has_interrupt, in_talk, where_none_is_taken, without_keys, given_from, given_keys, is_escape, line_given}
-use Rattle.p11_console.specs.declared.run.Course.{Course}
-use Rattle.p11_console.specs.declared.run.Course.TheVariants as course
-use Rattle.p11_console.specs.declared.run.Run.{Run}
+use Rattle.p11_lines.specs.LineEnd.{without_cr}
+use Rattle.p11_dialogue.specs.Lines.{is_line_feed}
+use Rattle.p11_dialogue.specs.Runs.{before_escape, course_of, has_escape, has_interrupt, in_talk, where_none_is_taken, without_keys, given_from, given_keys, is_escape, line_given}
+use Rattle.p11_dialogue.specs.declared.run.Course.{Course}
+use Rattle.p11_dialogue.specs.declared.run.Course.TheVariants as course
+use Rattle.p11_dialogue.specs.declared.run.RunProgress.{RunProgress}
 use Rattle.p11_records.proofs.LinesFit.{AreBytes}
 
 -- the keys that are given are no more than there is room for
@@ -96,12 +96,12 @@ if_not : (b : Bool) (x y : Course) → not_pressed x ≡ true → not_pressed y 
 if_not true x y p q = p
 if_not false x y p q = q
 
-keyless : (run : Run) (is_person is_over : Bool) → not_pressed (without_keys run is_person is_over) ≡ true
+keyless : (run : RunProgress) (is_person is_over : Bool) → not_pressed (without_keys run is_person is_over) ≡ true
 unfolding not_pressed
 keyless run true is_over = if_not is_over course.Ends _ refl (slices_or_not run.is_idle)
 keyless run false is_over = if_not run.is_quiet _ course.Slices (if_not is_over course.Ends course.Rests refl refl) refl
 
-none_is_taken : (run : Run) (is_over : Bool) (keys : List ℕ) → not_pressed (where_none_is_taken run is_over keys) ≡ true
+none_is_taken : (run : RunProgress) (is_over : Bool) (keys : List ℕ) → not_pressed (where_none_is_taken run is_over keys) ≡ true
 unfolding not_pressed
 none_is_taken run is_over keys = if_not (has_escape keys) course.Escapes _ refl (if_not (is_over && run.is_idle) course.Ends _ refl (slices_or_not run.is_idle))
 
@@ -112,7 +112,7 @@ pressed_so : (found : Course) → found ≡ course.Presses → not_pressed found
 unfolding not_pressed
 pressed_so found e other = not_both (sym other ∙ ap not_pressed e)
 
-talk_tests : (run : Run) (is_over : Bool) (keys : List ℕ) (room : ℕ) (none waits first there patient : Bool) (without : Course) → nat_eq (length keys) 0 ≡ none → nat_eq (slice_index keys 0) 5 ≡ first → nat_lt 0 room ≡ there → not_pressed without ≡ true
+talk_tests : (run : RunProgress) (is_over : Bool) (keys : List ℕ) (room : ℕ) (none waits first there patient : Bool) (without : Course) → nat_eq (length keys) 0 ≡ none → nat_eq (slice_index keys 0) 5 ≡ first → nat_lt 0 room ≡ there → not_pressed without ≡ true
     → (if none then without else (if waits then course.Slices else (if first then course.Escapes else (if there then course.Presses else (if patient then course.Slices else where_none_is_taken run is_over keys))))) ≡ course.Presses → IsPressed keys room
 unfolding not_pressed
 talk_tests run is_over keys room true waits first there patient without e f g other is = absurd (pressed_so without is other)
@@ -122,7 +122,7 @@ talk_tests run is_over keys room false false false true patient without e f g ot
 talk_tests run is_over keys room false false false false true without e f g other is = cc
 talk_tests run is_over keys room false false false false false without e f g other is = absurd (pressed_so (where_none_is_taken run is_over keys) is (none_is_taken run is_over keys))
 
-talk_presses : (run : Run) (is_person is_over : Bool) (keys : List ℕ) (room : ℕ) → in_talk run is_person is_over keys room ≡ course.Presses → IsPressed keys room
+talk_presses : (run : RunProgress) (is_person is_over : Bool) (keys : List ℕ) (room : ℕ) → in_talk run is_person is_over keys room ≡ course.Presses → IsPressed keys room
 unfolding in_talk
 talk_presses run is_person is_over keys room e =
     talk_tests run is_over keys room (nat_eq (length keys) 0) (not is_person && not run.is_quiet) (nat_eq (slice_index keys 0) 5) (nat_lt 0 room) (not run.is_idle && nat_lt run.stuck 200) (without_keys run is_person is_over) refl refl refl (keyless run is_person is_over) e
@@ -136,7 +136,7 @@ course_tests false false false false true interrupt talks e = cc
 course_tests false false false false false true talks e = cc
 course_tests false false false false false false talks e = cc
 
-is_pressed : (run : Run) (is_person : Bool) (ticks : ℕ) (is_over : Bool) (keys : List ℕ) (room : ℕ) → course_of run is_person ticks is_over keys room ≡ course.Presses → IsPressed keys room
+is_pressed : (run : RunProgress) (is_person : Bool) (ticks : ℕ) (is_over : Bool) (keys : List ℕ) (room : ℕ) → course_of run is_person ticks is_over keys room ≡ course.Presses → IsPressed keys room
 unfolding course_of
 is_pressed run is_person ticks is_over keys room e =
     talk_presses run is_person is_over keys room (course_tests (nat_lt 0 ticks) (nat_le 100000000 run.made) run.is_talk (not is_person) (has_escape keys) (has_interrupt keys) (in_talk run is_person is_over keys room) e)
@@ -167,7 +167,7 @@ first_kept zero keys fits = absurd (omega (arith, fits))
 first_kept (suc room) [] fits = refl
 first_kept (suc room) (key ∷ keys) fits = refl
 
-pub some_given : (run : Run) (is_person : Bool) (ticks : ℕ) (is_over : Bool) (keys : List ℕ) (room : ℕ) → course_of run is_person ticks is_over keys room ≡ course.Presses → 0 < length (given_keys is_person keys room).0
+pub some_given : (run : RunProgress) (is_person : Bool) (ticks : ℕ) (is_over : Bool) (keys : List ℕ) (room : ℕ) → course_of run is_person ticks is_over keys room ≡ course.Presses → 0 < length (given_keys is_person keys room).0
 unfolding given_keys
 some_given run is_person ticks is_over keys room e =
     let p = is_pressed run is_person ticks is_over keys room e in

@@ -22,7 +22,7 @@ use Rattle.p11_panel.specs.Keys.{pressed}
 use Rattle.p11_panel.specs.Ranges.{deposit_fault, deposited, examine_fault, examined}
 use Rattle.p11_panel.specs.Refusals.{IsRefused, unless}
 use Rattle.p11_panel.specs.Tapes.{all_fit, tape_loaded}
-use Rattle.p11_console.specs.Runs.{typed_in}
+use Rattle.p11_dialogue.specs.Runs.{typed_in}
 
 -- an answer that neither refuses nor stops
 abbrev pub is_plain : {A : Type 0} → Answer A → Bool

@@ -17,8 +17,8 @@ use Rattle.p11_panel.specs.Session.{LineDoes, LinesRun, SessionState, with_store
 use Rattle.p11_store.specs.Store.{StoreState, FailsToFetch, Has, KeepsOthers, Puts, asked, with_call}
 use Rattle.p11_store.specs.declared.store.StoreError.{StoreError}
 use Rattle.p11_store.specs.declared.store.StoreError.TheVariants as errors
-use Rattle.p11_console.specs.Record.{ended, run_text}
-use Rattle.p11_console.specs.Runs.{typed_in}
+use Rattle.p11_dialogue.specs.Record.{ended, run_text}
+use Rattle.p11_dialogue.specs.Runs.{typed_in}
 use Rattle.p11_records.specs.Again.{Alike, AreAsked, IsOfScript}
 use Rattle.p11_records.proofs.OutcomeLemmas.{Answers}
 use Rattle.p11_records.proofs.ScriptLemmas.{asked as lines_asked}

@@ -18,13 +18,13 @@ use Rattle.p11_panel.specs.Commands.{CommandStep}
 use Rattle.p11_panel.specs.Keys.{pressed}
 use Rattle.p11_panel.specs.Session.{SessionState, with_store, Obeys}
 use Rattle.p11_store.specs.Store.{StoreState}
-use Rattle.p11_console.specs.Record.{ended, keys_text, run_text, tick_text}
-use Rattle.p11_console.specs.Runs.{at_slice, course_of, given_keys, goes_on, next_run, slice_turns, typed_in}
-use Rattle.p11_console.specs.Steps.{way_behind, way_stopped}
-use Rattle.p11_console.specs.declared.run.Course.{Course}
-use Rattle.p11_console.specs.declared.run.Course.TheVariants as course
-use Rattle.p11_console.specs.declared.run.Run.{Run}
-use Rattle.p11_console.specs.declared.way.Way.TheVariants as ways
+use Rattle.p11_dialogue.specs.Record.{ended, keys_text, run_text, tick_text}
+use Rattle.p11_dialogue.specs.Runs.{at_slice, course_of, given_keys, goes_on, next_run, slice_turns, typed_in}
+use Rattle.p11_dialogue.specs.Behind.{activity_behind, activity_stopped}
+use Rattle.p11_dialogue.specs.declared.run.Course.{Course}
+use Rattle.p11_dialogue.specs.declared.run.Course.TheVariants as course
+use Rattle.p11_dialogue.specs.declared.run.RunProgress.{RunProgress}
+use Rattle.p11_dialogue.specs.declared.activity.Activity.TheVariants as activities
 use Rattle.p11_records.specs.Again.{IsOfScript}
 use Rattle.p11_records.proofs.LinesFit.{AreBytes}
 use Rattle.p11_records.proofs.ShortLines.{of_script, room_small}
@@ -43,7 +43,7 @@ full_not true full others e = cc
 full_not false true others e = cc
 full_not false false others e = refl
 
-pub not_full : (run : Run) (is_person : Bool) (ticks : ℕ) (is_over : Bool) (keys : List ℕ) (room : ℕ) → course_of run is_person ticks is_over keys room ≡ course.Slices → run.made < 100000000
+pub not_full : (run : RunProgress) (is_person : Bool) (ticks : ℕ) (is_over : Bool) (keys : List ℕ) (room : ℕ) → course_of run is_person ticks is_over keys room ≡ course.Slices → run.made < 100000000
 unfolding course_of
 not_full run is_person ticks is_over keys room e =
     let full : nat_le 100000000 run.made ≡ false = full_not (nat_lt 0 ticks) (nat_le 100000000 run.made) _ e in
@@ -52,12 +52,12 @@ not_full run is_person ticks is_over keys room e =
 few_turns : (most left made : ℕ) → made < 100000000 → made + max 1 (min most (min left (100000000 - made))) ≤ 100000000
 few_turns most left made below = omega (arith, below)
 
-pub within : (run : Run) (has_keys : Bool) (turns : ℕ) → run.made < 100000000 → run.made + slice_turns run has_keys turns ≤ 100000000
+pub within : (run : RunProgress) (has_keys : Bool) (turns : ℕ) → run.made < 100000000 → run.made + slice_turns run has_keys turns ≤ 100000000
 unfolding slice_turns
 within run has_keys turns below = few_turns _ run.left run.made below
 
 -- a run that goes on was stopped by its turns, or by idling
-going_reason : (run : Run) (reason : StopReason) (turns : ℕ) → goes_on run reason turns ≡ true → runs_on reason ≡ true
+going_reason : (run : RunProgress) (reason : StopReason) (turns : ℕ) → goes_on run reason turns ≡ true → runs_on reason ≡ true
 unfolding goes_on
 going_reason run reasons.Turns turns e = refl
 going_reason run reasons.Idle turns e = refl
@@ -65,7 +65,7 @@ going_reason run reasons.Halt turns e = e
 going_reason run reasons.Memory turns e = e
 
 -- a slice that is refused changes nothing
-refused_behind : (A : Type 0) (text typed : List ℕ) (run : Run) (has_keys : Bool) (machine machine' : State) (store : StoreState) (t : SessionState) → machine' ≡ machine → Again A (text ++ run_text A run.made) typed (with_store machine store) t → Again A (text ++ run_text A (at_slice has_keys run).made) (typed ++ []) (with_store machine' store) t
+refused_behind : (A : Type 0) (text typed : List ℕ) (run : RunProgress) (has_keys : Bool) (machine machine' : State) (store : StoreState) (t : SessionState) → machine' ≡ machine → Again A (text ++ run_text A run.made) typed (with_store machine store) t → Again A (text ++ run_text A (at_slice has_keys run).made) (typed ++ []) (with_store machine' store) t
 unfolding at_slice
 refused_behind A text typed run has_keys machine machine' store t same done =
     subst (λ (x : List ℕ). Again A (text ++ run_text A run.made) x (with_store machine' store) t) (sym (append-nil typed))
@@ -74,7 +74,7 @@ refused_behind A text typed run has_keys machine machine' store t same done =
 as_many : (made turns : ℕ) → made + turns ≤ 100000000 → min (made + turns) 4294967295 ≡ made + turns
 as_many made turns few = omega (arith, few)
 
-module _ (A : Type 0) (text typed : List ℕ) (run : Run) (machine machine' : State) (store : StoreState) (t : SessionState) (n : ℕ) (clean : machine.bus.typed ≡ []) (going : Going A text typed run.made machine store t) (few : run.made + n ≤ 100000000) where
+module _ (A : Type 0) (text typed : List ℕ) (run : RunProgress) (machine machine' : State) (store : StoreState) (t : SessionState) (n : ℕ) (clean : machine.bus.typed ≡ []) (going : Going A text typed run.made machine store t) (few : run.made + n ≤ 100000000) where
   stopped_open : (more : List ℕ) (turns pc : ℕ) → Made run.until_idle n turns more pc machine machine' → Open A text (typed ++ more) (run.made + turns) machine' store t
   stopped_open more turns pc made =
       let r = going.so_far in
@@ -99,8 +99,8 @@ module _ (A : Type 0) (text typed : List ℕ) (run : Run) (machine machine' : St
 
   -- what comes behind the slice
   by_going : (is_going : Bool) (has_keys : Bool) (more : List ℕ) (reason : StopReason) (turns pc : ℕ) → goes_on (at_slice has_keys run) reason turns ≡ is_going → CommandStep {A = A} machine (run_command run.until_idle n) (answers.Stop more reason turns pc) machine' → run.made + turns ≤ 100000000
-      → Now (way_stopped {A = A} is_going (next_run (at_slice has_keys run) more reason turns) reason pc) text (typed ++ more) machine' store t
-  unfolding way_stopped next_run at_slice
+      → Now (activity_stopped {A = A} is_going (next_run (at_slice has_keys run) more reason turns) reason pc) text (typed ++ more) machine' store t
+  unfolding activity_stopped next_run at_slice
   by_going true has_keys more reason turns pc on step most =
       subst (λ (made : ℕ). Going A text (typed ++ more) made machine' store t) (sym (as_many run.made turns most))
       (going_on more reason turns pc step (going_reason (at_slice has_keys run) reason turns on))
@@ -112,15 +112,15 @@ module _ (A : Type 0) (text typed : List ℕ) (run : Run) (machine machine' : St
   turns_within : (more : List ℕ) (reason : StopReason) (turns pc : ℕ) → CommandStep {A = A} machine (run_command run.until_idle n) (answers.Stop more reason turns pc) machine' → run.made + turns ≤ 100000000
   turns_within more reason turns pc step = (stopped_open more turns pc (made_by {A = A} run.until_idle n more reason turns pc machine machine' step)).run.few
 
-  behind : (has_keys : Bool) (answer : Answer A) → CommandStep machine (run_command run.until_idle n) answer machine' → Now (way_behind (at_slice has_keys run) answer) text (typed ++ typed_in answer) machine' store t
-  unfolding way_behind typed_in
+  behind : (has_keys : Bool) (answer : Answer A) → CommandStep machine (run_command run.until_idle n) answer machine' → Now (activity_behind (at_slice has_keys run) answer) text (typed ++ typed_in answer) machine' store t
+  unfolding activity_behind typed_in
   behind has_keys (answers.Stop more reason turns pc) step =
       by_going (goes_on (at_slice has_keys run) reason turns) has_keys more reason turns pc refl step (turns_within more reason turns pc step)
   behind has_keys (answers.Refused fault) step =
       refused_behind A text typed run has_keys machine machine' store t (refused_run A run.until_idle n fault machine machine' step) (closes A text typed run.made machine store t going.so_far)
   behind has_keys answer step = (let q = run_answers run.until_idle n answer machine machine' step in cc q)
 
-  pub slice_holds : (has_keys : Bool) (answer : Answer A) → CommandStep machine (run_command run.until_idle n) answer machine' → Holds (ways.Sliced (at_slice has_keys run) answer) text (typed ++ typed_in answer) machine' store t
+  pub slice_holds : (has_keys : Bool) (answer : Answer A) → CommandStep machine (run_command run.until_idle n) answer machine' → Holds (activities.Sliced (at_slice has_keys run) answer) text (typed ++ typed_in answer) machine' store t
   slice_holds has_keys answer step =
       record { clean = run_leaves_none run.until_idle n answer machine machine' clean step; stands = behind has_keys answer step }
 

@@ -11,9 +11,10 @@ use Rattle.p11_lines.specs.declared.line.Line.{Line}
 use Rattle.p11_lines.specs.declared.line.Line.TheVariants as lines
 use Rattle.p11_lines.specs.Calls.LineText.{line_text, FitsGrammar}
 use Rattle.p11_lines.proofs.ReadBack.{line_from-line_text, visible-line_text}
-use Rattle.p11_panel.specs.Script.{pieces_of, without_cr, ended_lines, script_lines}
+use Rattle.p11_lines.specs.LineEnd.{without_cr}
+use Rattle.p11_panel.specs.Script.{pieces_of, ended_lines, script_lines}
 use Rattle.p11_panel.specs.Session.{SessionState, Asks, has_answer, is_silent, LineDoes, LinesRun}
-use Rattle.p11_console.specs.Record.{ended}
+use Rattle.p11_dialogue.specs.Record.{ended}
 use Rattle.p11_records.specs.Again.{IsOfScript, AreAsked}
 
 -- a text with no control character is one piece, and has no CR at its end

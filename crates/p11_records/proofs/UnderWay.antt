@@ -13,12 +13,12 @@ use Rattle.p11_panel.specs.Commands.{CommandStep}
 use Rattle.p11_panel.specs.Runs.{last_halted}
 use Rattle.p11_panel.specs.Session.{SessionState, with_store, Obeys}
 use Rattle.p11_store.specs.Store.{StoreState}
-use Rattle.p11_console.specs.Record.{ended, recorded, run_text}
-use Rattle.p11_console.specs.Runs.{typed_in}
-use Rattle.p11_console.specs.Steps.{way_behind}
-use Rattle.p11_console.specs.declared.run.Run.{Run}
-use Rattle.p11_console.specs.declared.way.Way.{Way}
-use Rattle.p11_console.specs.declared.way.Way.TheVariants as ways
+use Rattle.p11_dialogue.specs.Record.{ended, recorded, run_text}
+use Rattle.p11_dialogue.specs.Runs.{typed_in}
+use Rattle.p11_dialogue.specs.Behind.{activity_behind}
+use Rattle.p11_dialogue.specs.declared.run.RunProgress.{RunProgress}
+use Rattle.p11_dialogue.specs.declared.activity.Activity.{Activity}
+use Rattle.p11_dialogue.specs.declared.activity.Activity.TheVariants as activities
 use Rattle.p11_records.specs.Dialogue.{typed_on}
 use Rattle.p11_records.specs.Again.{IsOfScript}
 use Rattle.p11_records.proofs.ShortLines.{IsSmall, of_script}
@@ -97,69 +97,69 @@ abbrev pub IsSaving : {A : Type 0} → Line A → List ℕ → State → Type 0
 IsSaving {A} (lines.Save drive name) image machine = CommandStep {A = A} machine (commands.Save drive) (answers.Image image) machine
 IsSaving line image machine = ⊥
 
-abbrev pub Now : {A : Type 0} → Way A → List ℕ → List ℕ → State → StoreState → SessionState → Type 0
-Now {A} (ways.Running run) text typed machine store t = Going A text typed run.made machine store t
-Now {A} (ways.Stopped stop more) text typed machine store t = Again A (text ++ more) typed (with_store machine store) t
-Now {A} (ways.Telling answer more note) text typed machine store t = Again A (text ++ more) typed (with_store machine store) t
-Now {A} (ways.Fetching line more) text typed machine store t =
+abbrev pub Now : {A : Type 0} → Activity A → List ℕ → List ℕ → State → StoreState → SessionState → Type 0
+Now {A} (activities.Running run) text typed machine store t = Going A text typed run.made machine store t
+Now {A} (activities.Stopped stop more) text typed machine store t = Again A (text ++ more) typed (with_store machine store) t
+Now {A} (activities.Telling answer more note) text typed machine store t = Again A (text ++ more) typed (with_store machine store) t
+Now {A} (activities.Fetching line more) text typed machine store t =
     Again A text typed (with_store machine store) t × (more ≡ ended line) × IsFetching line × FitsGrammar line
-Now {A} (ways.Putting line image more is_agreed) text typed machine store t =
+Now {A} (activities.Putting line image more is_agreed) text typed machine store t =
     Again A text typed (with_store machine store) t × (more ≡ ended line) × IsSaving line image machine × FitsGrammar line
-Now {A} (ways.Asking line image more) text typed machine store t =
+Now {A} (activities.Asking line image more) text typed machine store t =
     Again A text typed (with_store machine store) t × (more ≡ ended line) × IsSaving line image machine × FitsGrammar line
-Now {A} (ways.Unmounting drive is_agreed) text typed machine store t =
+Now {A} (activities.Unmounting drive is_agreed) text typed machine store t =
     Again A text typed (with_store machine store) t × FitsGrammar {A = A} (lines.Unmount drive)
-Now {A} (ways.Doubting drive) text typed machine store t =
+Now {A} (activities.Doubting drive) text typed machine store t =
     Again A text typed (with_store machine store) t × FitsGrammar {A = A} (lines.Unmount drive)
-Now {A} way text typed machine store t = Again A text typed (with_store machine store) t
+Now {A} activity text typed machine store t = Again A text typed (with_store machine store) t
 
-abbrev pub Stands : {A : Type 0} → Way A → List ℕ → List ℕ → State → StoreState → SessionState → Type 0
-Stands (ways.Sliced run answer) text typed machine store t = Now (way_behind run answer) text typed machine store t
-Stands way text typed machine store t = Now way text typed machine store t
+abbrev pub Stands : {A : Type 0} → Activity A → List ℕ → List ℕ → State → StoreState → SessionState → Type 0
+Stands (activities.Sliced run answer) text typed machine store t = Now (activity_behind run answer) text typed machine store t
+Stands activity text typed machine store t = Now activity text typed machine store t
 
 -- and no character that was typed waits
-pub record Holds {A : Type 0} (way : Way A) (text typed : List ℕ) (machine : State) (store : StoreState) (t : SessionState) : Type 0 where
+pub record Holds {A : Type 0} (activity : Activity A) (text typed : List ℕ) (machine : State) (store : StoreState) (t : SessionState) : Type 0 where
   pub clean : machine.bus.typed ≡ []
-  pub stands : Stands way text typed machine store t
+  pub stands : Stands activity text typed machine store t
 
 -- what brings nothing under way that has to be recorded
-abbrev pub is_plain_way : {A : Type 0} → Way A → Bool
-is_plain_way (ways.Running run) = false
-is_plain_way (ways.Sliced run answer) = false
-is_plain_way (ways.Stopped stop text) = false
-is_plain_way (ways.Telling answer text note) = false
-is_plain_way (ways.Fetching line text) = false
-is_plain_way (ways.Putting line image text is_agreed) = false
-is_plain_way (ways.Asking line image text) = false
-is_plain_way (ways.Unmounting drive is_agreed) = false
-is_plain_way (ways.Doubting drive) = false
-is_plain_way way = true
+abbrev pub is_plain_activity : {A : Type 0} → Activity A → Bool
+is_plain_activity (activities.Running run) = false
+is_plain_activity (activities.Sliced run answer) = false
+is_plain_activity (activities.Stopped stop text) = false
+is_plain_activity (activities.Telling answer text note) = false
+is_plain_activity (activities.Fetching line text) = false
+is_plain_activity (activities.Putting line image text is_agreed) = false
+is_plain_activity (activities.Asking line image text) = false
+is_plain_activity (activities.Unmounting drive is_agreed) = false
+is_plain_activity (activities.Doubting drive) = false
+is_plain_activity activity = true
 
 pub more_none : (A : Type 0) (text typed : List ℕ) (s t : SessionState) → Again A text typed s t → Again A text (typed ++ []) s t
 more_none A text typed s t done = same_typed A text typed (typed ++ []) s t (append-nil typed) done
 
-plain_stands : {A : Type 0} (way : Way A) (text typed : List ℕ) (machine : State) (store : StoreState) (t : SessionState) → is_plain_way way ≡ true → Again A text typed (with_store machine store) t → Stands way text (typed ++ typed_on way) machine store t
-plain_stands (ways.Running run) text typed machine store t e done = cc
-plain_stands (ways.Sliced run answer) text typed machine store t e done = cc
-plain_stands (ways.Stopped stop more) text typed machine store t e done = cc
-plain_stands (ways.Telling answer more note) text typed machine store t e done = cc
-plain_stands (ways.Fetching line more) text typed machine store t e done = cc
-plain_stands (ways.Putting line image more is_agreed) text typed machine store t e done = cc
-plain_stands (ways.Asking line image more) text typed machine store t e done = cc
-plain_stands (ways.Unmounting drive is_agreed) text typed machine store t e done = cc
-plain_stands (ways.Doubting drive) text typed machine store t e done = cc
-plain_stands {A} way text typed machine store t e done = more_none A text typed (with_store machine store) t done
+plain_stands : {A : Type 0} (activity : Activity A) (text typed : List ℕ) (machine : State) (store : StoreState) (t : SessionState) → is_plain_activity activity ≡ true → Again A text typed (with_store machine store) t → Stands activity text (typed ++ typed_on activity) machine store t
+plain_stands (activities.Running run) text typed machine store t e done = cc
+plain_stands (activities.Sliced run answer) text typed machine store t e done = cc
+plain_stands (activities.Stopped stop more) text typed machine store t e done = cc
+plain_stands (activities.Telling answer more note) text typed machine store t e done = cc
+plain_stands (activities.Fetching line more) text typed machine store t e done = cc
+plain_stands (activities.Putting line image more is_agreed) text typed machine store t e done = cc
+plain_stands (activities.Asking line image more) text typed machine store t e done = cc
+plain_stands (activities.Unmounting drive is_agreed) text typed machine store t e done = cc
+plain_stands (activities.Doubting drive) text typed machine store t e done = cc
+plain_stands {A} activity text typed machine store t e done = more_none A text typed (with_store machine store) t done
 
-pub plain_holds : {A : Type 0} (way : Way A) (text typed : List ℕ) (machine : State) (store : StoreState) (t : SessionState) → is_plain_way way ≡ true → machine.bus.typed ≡ [] → Again A text typed (with_store machine store) t → Holds way text (typed ++ typed_on way) machine store t
-plain_holds way text typed machine store t e clean done = record { clean = clean; stands = plain_stands way text typed machine store t e done }
+pub plain_holds : {A : Type 0} (activity : Activity A) (text typed : List ℕ) (machine : State) (store : StoreState) (t : SessionState) → is_plain_activity activity ≡ true → machine.bus.typed ≡ [] → Again A text typed (with_store machine store) t → Holds activity text (typed ++ typed_on activity) machine store t
+plain_holds activity text typed machine store t e clean done = record { clean = clean; stands = plain_stands activity text typed machine store t e done }
 
 -- a run begins, or goes on
-pub run_holds : {A : Type 0} (run : Run) (text typed : List ℕ) (machine : State) (store : StoreState) (t : SessionState) → machine.bus.typed ≡ [] → Going A text typed run.made machine store t → Holds {A = A} (ways.Running run) text (typed ++ []) machine store t
+pub run_holds : {A : Type 0} (run : RunProgress) (text typed : List ℕ) (machine : State) (store : StoreState) (t : SessionState) → machine.bus.typed ≡ [] → Going A text typed run.made machine store t → Holds {A = A} (activities.Running run) text (typed ++ []) machine store t
 run_holds {A} run text typed machine store t clean going =
     record { clean = clean; stands = subst (λ (x : List ℕ). Going A text x run.made machine store t) (sym (append-nil typed)) going }
 
 -- nothing is recorded of what is told
-pub told_holds : {A : Type 0} (fault : Fault) (text typed : List ℕ) (machine : State) (store : StoreState) (t : SessionState) → machine.bus.typed ≡ [] → Again A text typed (with_store machine store) t → Holds {A = A} (ways.Telling (answers.Refused fault) [] tt) text (typed ++ []) machine store t
+pub told_holds : {A : Type 0} (fault : Fault) (text typed : List ℕ) (machine : State) (store : StoreState) (t : SessionState) → machine.bus.typed ≡ [] → Again A text typed (with_store machine store) t → Holds {A = A} (activities.Telling (answers.Refused fault) [] tt) text (typed ++ []) machine store t
 told_holds {A} fault text typed machine store t clean done =
     record { clean = clean; stands = same_text A text (text ++ []) (typed ++ []) (with_store machine store) t (append-nil text) (more_none A text typed (with_store machine store) t done) }
 
@@ -172,7 +172,7 @@ line_stands {A} line (answers.Refused fault) text typed machine machine' store s
 line_stands line answer text typed machine machine' store store' t fits small leaves done h =
     one_more text typed line answer (with_store machine store) (with_store machine' store') t (of_script line fits (small (λ fault e. cc))) (λ fault e. cc) done h
 
-pub line_holds : {A : Type 0} (line : Line A) (answer : Answer A) (text typed : List ℕ) (machine machine' : State) (store store' : StoreState) (t : SessionState) → machine'.bus.typed ≡ [] → FitsGrammar line → (Answers answer → IsSmall line) → ((fault : Fault) → answer ≡ answers.Refused fault → (machine' ≡ machine) × (store'.files ≡ store.files)) → Again A text typed (with_store machine store) t → Obeys line (with_store machine store) answer (with_store machine' store') → Holds {A = A} (ways.Telling answer (recorded (ended line) answer) tt) text (typed ++ typed_in answer) machine' store' t
+pub line_holds : {A : Type 0} (line : Line A) (answer : Answer A) (text typed : List ℕ) (machine machine' : State) (store store' : StoreState) (t : SessionState) → machine'.bus.typed ≡ [] → FitsGrammar line → (Answers answer → IsSmall line) → ((fault : Fault) → answer ≡ answers.Refused fault → (machine' ≡ machine) × (store'.files ≡ store.files)) → Again A text typed (with_store machine store) t → Obeys line (with_store machine store) answer (with_store machine' store') → Holds {A = A} (activities.Telling answer (recorded (ended line) answer) tt) text (typed ++ typed_in answer) machine' store' t
 line_holds line answer text typed machine machine' store store' t clean fits small leaves done h =
     record { clean = clean; stands = line_stands line answer text typed machine machine' store store' t fits small leaves done h }
 
@@ -194,20 +194,20 @@ open_still A text typed made machine store store' t e going =
       running = going.running;
     }
 
-now_still : {A : Type 0} (way : Way A) (text typed : List ℕ) (machine : State) (store store' : StoreState) (t : SessionState) → store'.files ≡ store.files → Now way text typed machine store t → Now way text typed machine store' t
-now_still {A} (ways.Running run) text typed machine store store' t e h = open_still A text typed run.made machine store store' t e h
-now_still {A} (ways.Stopped stop more) text typed machine store store' t e h = unseen A (text ++ more) typed (with_store machine store) (with_store machine store') t (refl, e) h
-now_still {A} (ways.Telling answer more note) text typed machine store store' t e h = unseen A (text ++ more) typed (with_store machine store) (with_store machine store') t (refl, e) h
-now_still {A} (ways.Fetching line more) text typed machine store store' t e h = (unseen A text typed (with_store machine store) (with_store machine store') t (refl, e) h.0, h.1, h.2, h.3)
-now_still {A} (ways.Putting line image more is_agreed) text typed machine store store' t e h = (unseen A text typed (with_store machine store) (with_store machine store') t (refl, e) h.0, h.1, h.2, h.3)
-now_still {A} (ways.Asking line image more) text typed machine store store' t e h = (unseen A text typed (with_store machine store) (with_store machine store') t (refl, e) h.0, h.1, h.2, h.3)
-now_still {A} (ways.Unmounting drive is_agreed) text typed machine store store' t e h = (unseen A text typed (with_store machine store) (with_store machine store') t (refl, e) h.0, h.1)
-now_still {A} (ways.Doubting drive) text typed machine store store' t e h = (unseen A text typed (with_store machine store) (with_store machine store') t (refl, e) h.0, h.1)
-now_still {A} way text typed machine store store' t e h = unseen A text typed (with_store machine store) (with_store machine store') t (refl, e) h
+now_still : {A : Type 0} (activity : Activity A) (text typed : List ℕ) (machine : State) (store store' : StoreState) (t : SessionState) → store'.files ≡ store.files → Now activity text typed machine store t → Now activity text typed machine store' t
+now_still {A} (activities.Running run) text typed machine store store' t e h = open_still A text typed run.made machine store store' t e h
+now_still {A} (activities.Stopped stop more) text typed machine store store' t e h = unseen A (text ++ more) typed (with_store machine store) (with_store machine store') t (refl, e) h
+now_still {A} (activities.Telling answer more note) text typed machine store store' t e h = unseen A (text ++ more) typed (with_store machine store) (with_store machine store') t (refl, e) h
+now_still {A} (activities.Fetching line more) text typed machine store store' t e h = (unseen A text typed (with_store machine store) (with_store machine store') t (refl, e) h.0, h.1, h.2, h.3)
+now_still {A} (activities.Putting line image more is_agreed) text typed machine store store' t e h = (unseen A text typed (with_store machine store) (with_store machine store') t (refl, e) h.0, h.1, h.2, h.3)
+now_still {A} (activities.Asking line image more) text typed machine store store' t e h = (unseen A text typed (with_store machine store) (with_store machine store') t (refl, e) h.0, h.1, h.2, h.3)
+now_still {A} (activities.Unmounting drive is_agreed) text typed machine store store' t e h = (unseen A text typed (with_store machine store) (with_store machine store') t (refl, e) h.0, h.1)
+now_still {A} (activities.Doubting drive) text typed machine store store' t e h = (unseen A text typed (with_store machine store) (with_store machine store') t (refl, e) h.0, h.1)
+now_still {A} activity text typed machine store store' t e h = unseen A text typed (with_store machine store) (with_store machine store') t (refl, e) h
 
-stands_still : {A : Type 0} (way : Way A) (text typed : List ℕ) (machine : State) (store store' : StoreState) (t : SessionState) → store'.files ≡ store.files → Stands way text typed machine store t → Stands way text typed machine store' t
-stands_still (ways.Sliced run answer) text typed machine store store' t e h = now_still (way_behind run answer) text typed machine store store' t e h
-stands_still way text typed machine store store' t e h = now_still way text typed machine store store' t e h
+stands_still : {A : Type 0} (activity : Activity A) (text typed : List ℕ) (machine : State) (store store' : StoreState) (t : SessionState) → store'.files ≡ store.files → Stands activity text typed machine store t → Stands activity text typed machine store' t
+stands_still (activities.Sliced run answer) text typed machine store store' t e h = now_still (activity_behind run answer) text typed machine store store' t e h
+stands_still activity text typed machine store store' t e h = now_still activity text typed machine store store' t e h
 
-pub holds_still : {A : Type 0} (way : Way A) (text typed : List ℕ) (machine : State) (store store' : StoreState) (t : SessionState) → store'.files ≡ store.files → Holds way text typed machine store t → Holds way text typed machine store' t
-holds_still way text typed machine store store' t e h = record { clean = h.clean; stands = stands_still way text typed machine store store' t e h.stands }
+pub holds_still : {A : Type 0} (activity : Activity A) (text typed : List ℕ) (machine : State) (store store' : StoreState) (t : SessionState) → store'.files ≡ store.files → Holds activity text typed machine store t → Holds activity text typed machine store' t
+holds_still activity text typed machine store store' t e h = record { clean = h.clean; stands = stands_still activity text typed machine store store' t e h.stands }

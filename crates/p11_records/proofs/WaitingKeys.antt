@@ -5,24 +5,24 @@ use Rattle.std.specs.Bool.{MatchBool}
 use Rattle.std.proofs.lemmas.List.Elements.{All-append, All-drop, All-nil, All-take}
 use Rattle.p11_lines.specs.declared.line.Line.{Line}
 use Rattle.p11_phrases.specs.declared.phrase.Phrase.{Phrase}
-use Rattle.p11_phrases.specs.declared.place.Place.{Place}
+use Rattle.p11_phrases.specs.declared.place.ExaminedPlace.{ExaminedPlace}
 use Rattle.p11_phrases.specs.declared.refusal.Refusal.{Refusal}
 use Rattle.p11_phrases.specs.Phrases.{meaning}
 use Rattle.p11_store.specs.declared.store.StoreError.{StoreError}
 use Rattle.p11_console.specs.Files.{Gives, GivesScript, Names, Takes, TakesPut}
-use Rattle.p11_console.specs.Lines.{behind_at, behind_line, is_line_feed}
-use Rattle.p11_console.specs.Runs.{behind_escape, without_interrupt}
+use Rattle.p11_dialogue.specs.Lines.{behind_at, behind_line, is_line_feed}
+use Rattle.p11_dialogue.specs.Runs.{behind_escape, without_interrupt}
 use Rattle.p11_console.specs.State.{ConsoleState}
 use Rattle.p11_console.specs.Steps.{Answers, AnswersBy, Begins, Completes, Consents, DoesGiven, DoesMeant, DoesPhrase, DoesScripted, FindsLine, Leaves, LeavesBy, Moves, Reads, ReadsAs, Runs, RunsBy, Steps, StepsAgain, TakesKey, TicksIn, Types, UnmountsBy, course_now, has_given, has_scripted, has_some, is_by_person, loses, steps_again}
-use Rattle.p11_console.specs.declared.run.Course.{Course}
-use Rattle.p11_console.specs.declared.run.Course.TheVariants as course
-use Rattle.p11_console.specs.declared.run.Run.{Run}
+use Rattle.p11_dialogue.specs.declared.run.Course.{Course}
+use Rattle.p11_dialogue.specs.declared.run.Course.TheVariants as course
+use Rattle.p11_dialogue.specs.declared.run.RunProgress.{RunProgress}
 use Rattle.p11_console.specs.declared.trouble.PutFault.{PutFault}
 use Rattle.p11_console.specs.declared.trouble.PutFault.TheVariants as puts
-use Rattle.p11_console.specs.declared.want.Want.{Want}
-use Rattle.p11_console.specs.declared.want.Want.TheVariants as wants
-use Rattle.p11_console.specs.declared.way.Way.{Way}
-use Rattle.p11_console.specs.declared.way.Way.TheVariants as ways
+use Rattle.p11_dialogue.specs.declared.want.Want.{Want}
+use Rattle.p11_dialogue.specs.declared.want.Want.TheVariants as wants
+use Rattle.p11_dialogue.specs.declared.activity.Activity.{Activity}
+use Rattle.p11_dialogue.specs.declared.activity.Activity.TheVariants as activities
 use Rattle.p11_records.specs.Dialogue as dialogue
 use Rattle.p11_records.specs.Dialogue.{Comes, Dialogue, DialoguesDoAgain, Event, Gets, Happen, Happens, HostDoes, Keeps, begun, due, due_now, record_of, session_of, taken_at, typed_at, typed_on}
 use Rattle.p11_records.proofs.LinesFit.{AreBytes}
@@ -68,13 +68,13 @@ key_bytes : {A : Type 0} (found : Option ℕ) (c c' : ConsoleState A) → Waits 
 key_bytes None c c' bytes h = as_before h.1 bytes
 key_bytes (Some byte) c c' bytes h = as_before h.1 (dropped 1 c.waiting bytes)
 
-types_bytes : {A : Type 0} (ticks person given : Bool) (c c' : ConsoleState A) → Waits c → MatchBool ticks (TicksIn 0 ways.Typing c c') (MatchBool person (TakesKey (slice_get c.waiting 0) c c') (MatchBool given (DoesGiven c c') ((c.is_over ≡ true) × (c' ≡ record c { way = ways.Leaving })))) → Waits c'
+types_bytes : {A : Type 0} (ticks person given : Bool) (c c' : ConsoleState A) → Waits c → MatchBool ticks (TicksIn 0 activities.Typing c c') (MatchBool person (TakesKey (slice_get c.waiting 0) c c') (MatchBool given (DoesGiven c c') ((c.is_over ≡ true) × (c' ≡ record c { activity = activities.Leaving })))) → Waits c'
 types_bytes true person given c c' bytes h = as_before h.2 bytes
 types_bytes false true given c c' bytes h = key_bytes (slice_get c.waiting 0) c c' bytes h
 types_bytes false false true c c' bytes h = as_before h.2 (behind_first c.waiting bytes)
 types_bytes false false false c c' bytes h = as_before h.1 bytes
 
-phrase_bytes : {A : Type 0} (found : Option (List ℕ)) (place : Place) (line : List ℕ) (c c' : ConsoleState A) → Waits c → DoesPhrase found place line c c' → Waits c'
+phrase_bytes : {A : Type 0} (found : Option (List ℕ)) (place : ExaminedPlace) (line : List ℕ) (c c' : ConsoleState A) → Waits c → DoesPhrase found place line c c' → Waits c'
 phrase_bytes None place line c c' bytes h = as_before h.2 bytes
 phrase_bytes (Some meant) place line c c' bytes h = as_before h bytes
 
@@ -83,7 +83,7 @@ reads_bytes true found line c c' bytes h = as_before h.1 bytes
 reads_bytes false (Err refusal) line c c' bytes h = as_before h bytes
 reads_bytes false (Ok phrase) line c c' bytes h = phrase_bytes phrase.lines phrase.place line c c' bytes h
 
-runs_bytes : {A : Type 0} (found : Course) (turns : ℕ) (run : Run) (c c' : ConsoleState A) → Waits c → RunsBy found turns run c c' → Waits c'
+runs_bytes : {A : Type 0} (found : Course) (turns : ℕ) (run : RunProgress) (c c' : ConsoleState A) → Waits c → RunsBy found turns run c c' → Waits c'
 runs_bytes course.Slices turns run c c' bytes h = as_before h.2 bytes
 runs_bytes course.Presses turns run c c' bytes h = as_before h (dropped _ c.waiting bytes)
 runs_bytes course.Ticks turns run c c' bytes h = as_before h.2 bytes
@@ -109,59 +109,59 @@ leaves_bytes : {A : Type 0} (b : Bool) (c c' : ConsoleState A) → Waits c → L
 leaves_bytes true c c' bytes h = as_before h.1 bytes
 leaves_bytes false c c' bytes h = as_before h.1 bytes
 
-moves_bytes : {A : Type 0} (turns : ℕ) (way : Way A) (c c' : ConsoleState A) → c.way ≡ way → Waits c → Moves turns way c c' → Waits c'
+moves_bytes : {A : Type 0} (turns : ℕ) (activity : Activity A) (c c' : ConsoleState A) → c.activity ≡ activity → Waits c → Moves turns activity c c' → Waits c'
 unfolding FindsLine Types Completes Reads Runs Leaves
-moves_bytes turns ways.Free c c' e bytes h = finds_bytes (has_some c.lines) (has_scripted c) c c' bytes h
-moves_bytes turns ways.Typing c c' e bytes h = types_bytes (nat_lt 0 c.ticks) (is_by_person c) (has_given c.is_over c.waiting) c c' bytes h
-moves_bytes turns ways.Naming c c' e bytes h = as_before h.3 bytes
-moves_bytes turns ways.Entered c c' e bytes h = as_before h bytes
-moves_bytes turns ways.Noted c c' e bytes h = reads_bytes (steps_again c) (meaning c.place c.typist.editor.line.text) c.typist.editor.line.text c c' bytes h
-moves_bytes turns (ways.Helping topic) c c' e bytes h = as_before h.1 bytes
-moves_bytes turns (ways.Running run) c c' e bytes h = runs_bytes (course_now run c) turns run c c' bytes h
-moves_bytes turns (ways.Sliced run answer) c c' e bytes h = as_before h bytes
-moves_bytes turns (ways.Stopped stop more) c c' e bytes h = as_before h.1 bytes
-moves_bytes turns (ways.Telling answer more note) c c' e bytes h = as_before h.1 bytes
-moves_bytes {A} turns (ways.Asking line image more) c c' e bytes h = answers_bytes (slice_get c.waiting 0) line image more c c' bytes (subst (λ (w : Way A). Answers w c c') e h)
-moves_bytes turns (ways.Unmounting drive is_agreed) c c' e bytes h = unmounts_bytes (loses is_agreed drive c) drive c c' bytes h
-moves_bytes turns (ways.Doubting drive) c c' e bytes h = consents_bytes (slice_get c.waiting 0) drive c c' bytes h
-moves_bytes turns ways.Leaving c c' e bytes h = leaves_bytes _ c c' bytes h
-moves_bytes turns (ways.Fetching line more) c c' e bytes h = absurd h
-moves_bytes turns (ways.Putting line image more is_agreed) c c' e bytes h = absurd h
-moves_bytes turns (ways.Opening name) c c' e bytes h = absurd h
-moves_bytes turns ways.Over c c' e bytes h = absurd h
+moves_bytes turns activities.Free c c' e bytes h = finds_bytes (has_some c.lines) (has_scripted c) c c' bytes h
+moves_bytes turns activities.Typing c c' e bytes h = types_bytes (nat_lt 0 c.ticks) (is_by_person c) (has_given c.is_over c.waiting) c c' bytes h
+moves_bytes turns activities.Naming c c' e bytes h = as_before h.3 bytes
+moves_bytes turns activities.Entered c c' e bytes h = as_before h bytes
+moves_bytes turns activities.Noted c c' e bytes h = reads_bytes (steps_again c) (meaning c.place c.typist.editor.line.text) c.typist.editor.line.text c c' bytes h
+moves_bytes turns (activities.Helping topic) c c' e bytes h = as_before h.1 bytes
+moves_bytes turns (activities.Running run) c c' e bytes h = runs_bytes (course_now run c) turns run c c' bytes h
+moves_bytes turns (activities.Sliced run answer) c c' e bytes h = as_before h bytes
+moves_bytes turns (activities.Stopped stop more) c c' e bytes h = as_before h.1 bytes
+moves_bytes turns (activities.Telling answer more note) c c' e bytes h = as_before h.1 bytes
+moves_bytes {A} turns (activities.Asking line image more) c c' e bytes h = answers_bytes (slice_get c.waiting 0) line image more c c' bytes (subst (λ (w : Activity A). Answers w c c') e h)
+moves_bytes turns (activities.Unmounting drive is_agreed) c c' e bytes h = unmounts_bytes (loses is_agreed drive c) drive c c' bytes h
+moves_bytes turns (activities.Doubting drive) c c' e bytes h = consents_bytes (slice_get c.waiting 0) drive c c' bytes h
+moves_bytes turns activities.Leaving c c' e bytes h = leaves_bytes _ c c' bytes h
+moves_bytes turns (activities.Fetching line more) c c' e bytes h = absurd h
+moves_bytes turns (activities.Putting line image more is_agreed) c c' e bytes h = absurd h
+moves_bytes turns (activities.Opening name) c c' e bytes h = absurd h
+moves_bytes turns activities.Over c c' e bytes h = absurd h
 
 steps_bytes : {A : Type 0} (turns : ℕ) (want : Want) (c c' : ConsoleState A) → Waits c → Steps turns c want c' → Waits c'
-steps_bytes turns wants.Step c c' bytes h = moves_bytes turns c.way c c' refl bytes h
+steps_bytes turns wants.Step c c' bytes h = moves_bytes turns c.activity c c' refl bytes h
 steps_bytes turns want c c' bytes h = as_before h.1 bytes
 
 script_bytes : {A : Type 0} (file : Result (List ℕ) StoreError) (c c' : ConsoleState A) → Waits c → GivesScript file c c' → Waits c'
 script_bytes (Ok given) c c' bytes h = as_before h bytes
 script_bytes (Err error) c c' bytes h = as_before h bytes
 
-gives_bytes : {A : Type 0} (file : Result (List ℕ) StoreError) (way : Way A) (c c' : ConsoleState A) → Waits c → Gives file way c c' → Waits c'
-gives_bytes file (ways.Fetching line more) c c' bytes h = as_before h.1 bytes
-gives_bytes file (ways.Opening name) c c' bytes h = script_bytes file c c' bytes h
-gives_bytes file way c c' bytes h = as_before h bytes
+gives_bytes : {A : Type 0} (file : Result (List ℕ) StoreError) (activity : Activity A) (c c' : ConsoleState A) → Waits c → Gives file activity c c' → Waits c'
+gives_bytes file (activities.Fetching line more) c c' bytes h = as_before h.1 bytes
+gives_bytes file (activities.Opening name) c c' bytes h = script_bytes file c c' bytes h
+gives_bytes file activity c c' bytes h = as_before h bytes
 
 put_bytes : {A : Type 0} (done : Result (Unit {0}) PutFault) (line : Line A) (image more : List ℕ) (c c' : ConsoleState A) → Waits c → TakesPut done line image more c c' → Waits c'
 put_bytes (Ok done) line image more c c' bytes h = as_before h bytes
 put_bytes (Err puts.There) line image more c c' bytes h = as_before h.1 bytes
 put_bytes (Err (puts.Refused reason)) line image more c c' bytes h = as_before h bytes
 
-takes_bytes : {A : Type 0} (done : Result (Unit {0}) PutFault) (way : Way A) (c c' : ConsoleState A) → Waits c → Takes done way c c' → Waits c'
-takes_bytes done (ways.Putting line image more is_agreed) c c' bytes h = put_bytes done line image more c c' bytes h
-takes_bytes done way c c' bytes h = as_before h bytes
+takes_bytes : {A : Type 0} (done : Result (Unit {0}) PutFault) (activity : Activity A) (c c' : ConsoleState A) → Waits c → Takes done activity c c' → Waits c'
+takes_bytes done (activities.Putting line image more is_agreed) c c' bytes h = put_bytes done line image more c c' bytes h
+takes_bytes done activity c c' bytes h = as_before h bytes
 
-names_bytes : {A : Type 0} (way : Way A) (c c' : ConsoleState A) → Waits c → Names way c c' → Waits c'
+names_bytes : {A : Type 0} (activity : Activity A) (c c' : ConsoleState A) → Waits c → Names activity c c' → Waits c'
 unfolding Completes
-names_bytes ways.Naming c c' bytes h = as_before h.3 bytes
-names_bytes way c c' bytes h = as_before h bytes
+names_bytes activities.Naming c c' bytes h = as_before h.3 bytes
+names_bytes activity c c' bytes h = as_before h bytes
 
 pub comes_bytes : {A : Type 0} (event : Event A) (c c' : ConsoleState A) → Waits c → Comes event c c' → Waits c'
 comes_bytes (dialogue.Stepped turns want) c c' bytes h = steps_bytes turns want c c' bytes h
-comes_bytes (dialogue.Fetched file) c c' bytes h = gives_bytes file c.way c c' bytes h
-comes_bytes (dialogue.Written done) c c' bytes h = takes_bytes done c.way c c' bytes h
-comes_bytes dialogue.Named c c' bytes h = names_bytes c.way c c' bytes h
+comes_bytes (dialogue.Fetched file) c c' bytes h = gives_bytes file c.activity c c' bytes h
+comes_bytes (dialogue.Written done) c c' bytes h = takes_bytes done c.activity c c' bytes h
+comes_bytes dialogue.Named c c' bytes h = names_bytes c.activity c c' bytes h
 comes_bytes (dialogue.Keys keys) c c' bytes h = as_before h.1 (All-append (λ byte. byte ≤ 255) c.waiting keys bytes h.0)
 comes_bytes dialogue.Redrawn c c' bytes h = as_before h.1 bytes
 comes_bytes (dialogue.Opened name) c c' bytes h = as_before h bytes

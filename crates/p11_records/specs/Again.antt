@@ -12,7 +12,7 @@ use Rattle.p11_cpu.specs.State.{State}
 use Rattle.p11_panel.specs.Calls.Runs.{IsRun, stops_idling}
 use Rattle.p11_panel.specs.Script.{script_lines}
 use Rattle.p11_panel.specs.Session.{SessionState, Obeys, Asks, LineDoes, LinesRun}
-use Rattle.p11_console.specs.Record.{ended}
+use Rattle.p11_dialogue.specs.Record.{ended}
 
 -- keys and turns, of which a run is made
 abbrev pub is_of_run : {A : Type 0} → Line A → Bool

@@ -9,19 +9,20 @@ use Rattle.p11_panel.specs.Session.{LineDoes, LinesRun, SessionState, with_store
 use Rattle.p11_store.specs.Store.{StoreState, Fetches, FailsToFetch, Puts, FailsToPut}
 use Rattle.p11_store.specs.declared.store.StoreError.{StoreError}
 use Rattle.p11_console.specs.Files.{Gives, Names, Takes, image_in, opening, wanted}
-use Rattle.p11_console.specs.Record.{run_text}
-use Rattle.p11_console.specs.Runs.{typed_in}
-use Rattle.p11_console.specs.Said.{Says}
+use Rattle.p11_dialogue.specs.Record.{run_text}
+use Rattle.p11_dialogue.specs.Runs.{typed_in}
+use Rattle.p11_dialogue.specs.Said.{Says}
 use Rattle.p11_console.specs.State.{ConsoleState, opened}
-use Rattle.p11_console.specs.Steps.{Steps, way_behind}
-use Rattle.p11_console.specs.Typing.{rested}
-use Rattle.p11_console.specs.declared.settings.Settings.{Settings}
+use Rattle.p11_dialogue.specs.Behind.{activity_behind}
+use Rattle.p11_console.specs.Steps.{Steps}
+use Rattle.p11_dialogue.specs.Typing.{rested}
+use Rattle.p11_dialogue.specs.declared.settings.Settings.{Settings}
 use Rattle.p11_console.specs.declared.trouble.PutFault.{PutFault}
 use Rattle.p11_console.specs.declared.trouble.PutFault.TheVariants as puts
-use Rattle.p11_console.specs.declared.want.Want.{Want}
-use Rattle.p11_console.specs.declared.want.Want.TheVariants as wants
-use Rattle.p11_console.specs.declared.way.Way.{Way}
-use Rattle.p11_console.specs.declared.way.Way.TheVariants as ways
+use Rattle.p11_dialogue.specs.declared.want.Want.{Want}
+use Rattle.p11_dialogue.specs.declared.want.Want.TheVariants as wants
+use Rattle.p11_dialogue.specs.declared.activity.Activity.{Activity}
+use Rattle.p11_dialogue.specs.declared.activity.Activity.TheVariants as activities
 use Rattle.p11_records.specs.Again.{Alike}
 
 -- ---- what comes to a console: each call that may change it
@@ -47,10 +48,10 @@ pub data Event (A : Type 0) : Type 0 where
 -- what the call does to the console, as its contract says
 abbrev pub Comes : {A : Type 0} → Event A → ConsoleState A → ConsoleState A → Type 0
 Comes (Stepped turns want) c c' = Steps turns c want c'
-Comes (Fetched file) c c' = Gives file c.way c c'
-Comes (Written done) c c' = Takes done c.way c c'
-Comes Named c c' = Names c.way c c'
-Comes (Opened name) c c' = c' ≡ record c { way = opening name c.way }
+Comes (Fetched file) c c' = Gives file c.activity c c'
+Comes (Written done) c c' = Takes done c.activity c c'
+Comes Named c c' = Names c.activity c c'
+Comes (Opened name) c c' = c' ≡ record c { activity = opening name c.activity }
 Comes (Keys bytes) c c' = All (λ byte. byte ≤ 255) bytes × (c' ≡ record c { waiting = c.waiting ++ bytes })
 Comes Ticked c c' = c' ≡ record c { ticks = min (c.ticks + 1) 4294967295 }
 Comes Closed c c' = c' ≡ record c { is_over = true }
@@ -77,10 +78,10 @@ Keeps (Ok done) (Some name) (Some image) s s' = Puts s name image s'
 Keeps (Err (puts.Refused reason)) (Some name) (Some image) s s' = FailsToPut s name s' × (s'.files ≡ s.files)
 Keeps done name image s s' = s' ≡ s
 
-abbrev pub HostDoes : {A : Type 0} → Event A → Way A → StoreState → StoreState → Type 0
-HostDoes (Fetched file) way s s' = Gets file (wanted way) s s'
-HostDoes (Written done) way s s' = Keeps done (wanted way) (image_in way) s s'
-HostDoes event way s s' = s' ≡ s
+abbrev pub HostDoes : {A : Type 0} → Event A → Activity A → StoreState → StoreState → Type 0
+HostDoes (Fetched file) activity s s' = Gets file (wanted activity) s s'
+HostDoes (Written done) activity s s' = Keeps done (wanted activity) (image_in activity) s s'
+HostDoes event activity s s' = s' ≡ s
 
 -- ---- what is recorded, and typed
 
@@ -90,25 +91,25 @@ taken_at (Recorded count) journal = take count journal
 taken_at event journal = []
 
 -- the bytes that the machine has typed in a slice, or in a run that was made at once
-abbrev pub typed_on : {A : Type 0} → Way A → List ℕ
-typed_on (ways.Sliced run answer) = typed_in answer
-typed_on (ways.Telling answer text note) = typed_in answer
-typed_on way = []
+abbrev pub typed_on : {A : Type 0} → Activity A → List ℕ
+typed_on (activities.Sliced run answer) = typed_in answer
+typed_on (activities.Telling answer text note) = typed_in answer
+typed_on activity = []
 
-abbrev pub typed_at : {A : Type 0} → Event A → Way A → List ℕ
-typed_at (Stepped turns wants.Step) way = typed_on way
-typed_at event way = []
+abbrev pub typed_at : {A : Type 0} → Event A → Activity A → List ℕ
+typed_at (Stepped turns wants.Step) activity = typed_on activity
+typed_at event activity = []
 
 -- What is recorded of a run that is under way, or of what isn't told yet, once that is done.
-abbrev pub due_now : {A : Type 0} → Way A → List ℕ
-due_now {A} (ways.Running run) = run_text A run.made
-due_now (ways.Stopped stop text) = text
-due_now (ways.Telling answer text note) = text
-due_now way = []
+abbrev pub due_now : {A : Type 0} → Activity A → List ℕ
+due_now {A} (activities.Running run) = run_text A run.made
+due_now (activities.Stopped stop text) = text
+due_now (activities.Telling answer text note) = text
+due_now activity = []
 
-abbrev pub due : {A : Type 0} → Way A → List ℕ
-due (ways.Sliced run answer) = due_now (way_behind run answer)
-due way = due_now way
+abbrev pub due : {A : Type 0} → Activity A → List ℕ
+due (activities.Sliced run answer) = due_now (activity_behind run answer)
+due activity = due_now activity
 
 -- ---- a dialogue
 
@@ -127,13 +128,13 @@ session_of d = with_store d.console.machine d.store
 
 -- the whole record
 abbrev pub record_of : {A : Type 0} → Dialogue A → List ℕ
-record_of d = d.taken ++ d.console.journal ++ due d.console.way
+record_of d = d.taken ++ d.console.journal ++ due d.console.activity
 
 unfoldable pub Happens : {A : Type 0} → Event A → Dialogue A → Dialogue A → Type 0
 Happens event d d' =
-    Comes event d.console d'.console × HostDoes event d.console.way d.store d'.store
+    Comes event d.console d'.console × HostDoes event d.console.activity d.store d'.store
     × (d'.taken ≡ d.taken ++ taken_at event d.console.journal)
-    × (d'.typed ≡ d.typed ++ typed_at event d'.console.way)
+    × (d'.typed ≡ d.typed ++ typed_at event d'.console.activity)
 
 -- events, one after another
 unfoldable pub Happen : {A : Type 0} → List (Event A) → Dialogue A → Dialogue A → Type 0

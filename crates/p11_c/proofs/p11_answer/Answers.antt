@@ -10,6 +10,6 @@ returns-in_default c =
 
 pub returns : goal.returns
 returns c =
-    on_some _ _ c.args.handle.now.slot.held c.put.new.self.slot.held _ c.in-Some.desk.value c.in-Some.desk.value c.hand_text-status.result c.in-Some.ensures.taken
+    on_some _ _ c.args.handle.now.slot.held c.put.new.self.slot.held _ c.in-Some.machine.value c.in-Some.machine.value c.hand_text-status.result c.in-Some.ensures.taken
     (to_z-of_z {w = w32} {z = c.number-2.result} (record { sfits = c.number-2.type_inv }) ∙ c.number-2.ensures) c.put.ensures
-    (refl, text_handed c.hand_text-status.result c.answer.result.now c.in-Some.desk.value.answer _ _ (c.answer.ensures ∙ ap (λ (k : Kept). k.answer) c.deref.ensures) c.hand_text-status.ensures)
+    (refl, text_handed c.hand_text-status.result c.answer.result.now c.in-Some.machine.value.answer _ _ (c.answer.ensures ∙ ap (λ (k : Kept). k.answer) c.deref.ensures) c.hand_text-status.ensures)

@@ -13,6 +13,6 @@ returns-in_default c =
 pub returns : goal.returns
 returns c =
     let P : Kept → Type 0 = λ k. HandsFiles c.hand_files-status.result k.files (lent c.args.files.now c.args.files_length.now) (lent c.hand_files-status.new.out c.hand_files-status.new.out_length) in
-    on_some _ _ c.args.handle.now.slot.held c.put.new.self.slot.held _ c.in-Some.desk.value c.in-Some.desk.value c.hand_files-status.result c.in-Some.ensures.taken
+    on_some _ _ c.args.handle.now.slot.held c.put.new.self.slot.held _ c.in-Some.machine.value c.in-Some.machine.value c.hand_files-status.result c.in-Some.ensures.taken
     (to_z-of_z {w = w32} {z = c.number-2.result} (record { sfits = c.number-2.type_inv }) ∙ c.number-2.ensures) c.put.ensures
     (refl, subst P c.deref.ensures c.hand_files-status.ensures)

@@ -12,6 +12,6 @@ returns-in_default c =
 pub returns : goal.returns
 returns c =
     let From : Kept → Type 0 = λ k. ForgetsFile c.args.name.now c.forget_file-status.result k c.forget_file-status.new.self in
-    on_some _ _ c.args.handle.now.slot.held c.put.new.self.slot.held _ c.in-Some.desk.value c.forget_file-status.new.self c.forget_file-status.result c.in-Some.ensures.taken
+    on_some _ _ c.args.handle.now.slot.held c.put.new.self.slot.held _ c.in-Some.machine.value c.forget_file-status.new.self c.forget_file-status.result c.in-Some.ensures.taken
     (to_z-of_z {w = w32} {z = c.number-2.result} (record { sfits = c.number-2.type_inv }) ∙ c.number-2.ensures) c.put.ensures
     (subst From c.deref_mut.ensures.value c.forget_file-status.ensures)

@@ -12,6 +12,6 @@ returns-in_default c =
 
 pub returns : goal.returns
 returns c =
-    on_some _ _ c.args.handle.now.slot.held c.put.new.self.slot.held _ c.in-Some.desk.value c.in-Some.desk.value Done c.in-Some.ensures.taken
+    on_some _ _ c.args.handle.now.slot.held c.put.new.self.slot.held _ c.in-Some.machine.value c.in-Some.machine.value Done c.in-Some.ensures.taken
     (to_z-of_z {w = w32} {z = c.number-2.result} (record { sfits = c.number-2.type_inv }) ∙ c.number-2.ensures) c.put.ensures
     (refl, refl, c.registers.ensures ∙ ap (λ (k : Kept). told_registers k.machine) c.deref.ensures)

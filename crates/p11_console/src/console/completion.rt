@@ -2,13 +2,11 @@
 ghost use Rattle.std.specs.Prelude.{◌≡◌};
 ghost use Rattle.p11_line_editor.specs.Completion.{word_of};
 ghost use Rattle.p11_console.specs.Files.{Names};
-ghost use Rattle.p11_console.specs.Said.{Says};
+ghost use Rattle.p11_dialogue.specs.Said.{Says};
 ghost use Rattle.p11_console.specs.Steps.{Completes};
 
-use super::{Console, PROMPT};
-use crate::completing::{candidates, kind_at, list};
-use crate::text::Text;
-use crate::way::Way;
+use super::Console;
+use p11_dialogue::{Activity, PROMPT, Text, candidates, list, word_kind_at};
 use p11_line_editor::Outcome;
 use std::alloc::Allocator;
 
@@ -16,11 +14,11 @@ impl<A: Allocator + Copy> Console<A> {
     /// The host gives names of files that may stand at the cursor, of a folder with `/` behind it. Where none are wanted
     /// nothing is done.
     pub fn names(&mut self, alloc: A, names: &[&[u8]])
-        ensures { Names self.old.way self.old self.new }
+        ensures { Names self.old.activity self.old self.new }
     {
-        if let Way::Naming = self.way.get() {
+        if let Activity::Naming = self.activity.get() {
             self.complete(alloc, names);
-            self.way.set(Way::Typing);
+            self.activity.set(Activity::Typing);
         }
     }
 
@@ -34,9 +32,9 @@ impl<A: Allocator + Copy> Console<A> {
     /// Completes the word at the cursor, by names of files or other words.
     #[tactic(auto, unfolding(crate::specs::Steps::Completes))]
     pub(super) fn complete(&mut self, alloc: A, names: &[&[u8]])
-        ensures { Completes self.old (record self.new { way = Way.Typing }) }
+        ensures { Completes self.old (record self.new { activity = Activity.Typing }) }
     {
-        let kind = kind_at(&self.typist.editor);
+        let kind = word_kind_at(&self.typist.editor);
         match candidates(alloc, kind, self.typist.editor.word(), names) {
             Ok(words) => self.complete_by(alloc, words.as_slice()),
             Err(_) => self.screen.say(b"\x07"),
@@ -45,7 +43,7 @@ impl<A: Allocator + Copy> Console<A> {
 
     /// Completes the word at the cursor by some words that may stand there.
     fn complete_by(&mut self, alloc: A, words: &[&[u8]])
-        ensures { Completes self.old (record self.new { way = Way.Typing }) }
+        ensures { Completes self.old (record self.new { activity = Activity.Typing }) }
     {
         let outcome = self.typist.complete(words);
         self.show_completed(alloc, outcome, words);

@@ -1,23 +1,17 @@
 // The line that is done next, from where it comes.
 ghost use Rattle.std.specs.Prelude.{◌≡◌, ◌++◌, if◌then◌else◌, OnOk, OnErr, IfOk, IfErr};
-ghost use Rattle.p11_console.specs.Runs.{talk_of};
+ghost use Rattle.p11_dialogue.specs.Runs.{talk_of};
 ghost use Rattle.p11_console.specs.Steps.{FindsLine, DoesMeant, DoesScripted, Begins, Reads, DoesPhrase, DoesGiven, Leaves, still_warned, is_quit, is_once, StepsAgain};
-ghost use Rattle.p11_console.specs.Typing.{kept_line, past_of};
+ghost use Rattle.p11_dialogue.specs.Typing.{kept_line, past_of};
 
-use super::{Console, PROMPT};
-use crate::buffer::Buffer;
-use crate::lines::{drop_line, first_line};
-use crate::misfit::add_meanings;
-use crate::note::Note;
-use crate::own::{Own, own_of, verb_and_rest};
+use super::Console;
 use crate::packs::any_unsaved;
-use crate::run::talk_of;
-use crate::settings::{is_batch, is_person, tried_by};
-use crate::text::Text;
 use crate::tries::{begin_run, do_line, refused, try_text};
-use crate::want::Want;
-use crate::way::Way;
-use p11_lines::{Bytes, Fault, NoMemory};
+use p11_dialogue::{
+    Activity, Buffer, LineKind, Note, Text, Want, add_meanings, drop_line, first_line, is_batch,
+    kind_of_line, talk_of, tried_by, verb_and_rest,
+};
+use p11_lines::{Fault, NoMemory};
 use p11_phrases::{Phrase, Refusal, read_phrase};
 use std::alloc::Allocator;
 
@@ -39,8 +33,8 @@ impl<A: Allocator + Copy> Console<A> {
 
     /// Does the next line that waits, or begins one.
     #[tactic(auto, unfolding(crate::specs::Steps::FindsLine))]
-    pub(super) fn find_line(&mut self, alloc: A) -> Result<Way<A>, Want>
-        ensures ok { IfOk result (λ way. FindsLine self.old (record self.new { way = way })) }
+    pub(super) fn find_line(&mut self, alloc: A) -> Result<Activity<A>, Want>
+        ensures ok { IfOk result (λ activity. FindsLine self.old (record self.new { activity = activity })) }
         ensures err { IfErr result (λ want. want ≡ Want.Memory) }
         ensures same { OnErr result (self.new ≡ self.old) }
     {
@@ -56,119 +50,78 @@ impl<A: Allocator + Copy> Console<A> {
     }
 
     /// Goes on behind a script: with a line, a talk, or the end.
-    fn begin(&mut self, alloc: A) -> Way<A>
-        ensures { Begins self.old (record self.new { way = result }) }
+    fn begin(&mut self, alloc: A) -> Activity<A>
+        ensures { Begins self.old (record self.new { activity = result }) }
     {
         let is_all = is_batch(self.settings.manner);
         let is_to_talk = self.is_to_talk;
-        let said = self.behind_text(alloc, is_all, is_to_talk);
+        let manner = self.settings.manner;
+        let said = self.asides.behind_script(alloc, manner, is_to_talk);
         self.screen.say(said.as_slice());
         self.is_to_talk = false;
         self.typist.begin();
         goes_behind(is_all, is_to_talk)
     }
 
-    /// What is said on the screen behind a script. Of a script that is all it is said apart.
-    fn behind_text(&mut self, alloc: A, is_all: bool, is_to_talk: bool) -> Text<A>
-        ensures { self.new ≡ self.old }
-    {
-        let mut said = Text::new(alloc);
-        self.source.end(&mut said);
-        if is_all {
-            add_unwritten(&mut said, self.unwritten.as_slice());
-            self.errors.say(said.as_slice());
-            return Text::new(alloc);
-        }
-        if is_to_talk {
-            said.add(self.talk_text());
-        } else if is_person(self.settings.manner) {
-            said.add(PROMPT);
-        }
-        said
-    }
-
-    /// How one comes back from a talk, once, where a person types.
-    fn talk_text(&mut self) -> &'static [u8]
-        ensures { self.new ≡ self.old }
-    {
-        let is_first = !self.is_told && is_person(self.settings.manner);
-        self.is_told = true;
-        if is_first {
-            b"(Ctrl-E comes back to the console.)\n"
-        } else {
-            b""
-        }
-    }
-
-    /// What is said as something comes under way.
-    fn way_text(&mut self, way: &Way<A>) -> &'static [u8]
-        ensures { self.new ≡ self.old }
-    {
-        match way {
-            Way::Running(run) if run.is_talk => self.talk_text(),
-            _ => b"",
-        }
-    }
-
     /// Does the first of the lines that the typed one means.
     #[tactic(auto, unfolding(crate::specs::Steps::DoesMeant))]
-    fn do_meant(&mut self, alloc: A) -> Result<Way<A>, Want>
-        ensures ok { IfOk result (λ way. DoesMeant self.old (record self.new { way = way })) }
+    fn do_meant(&mut self, alloc: A) -> Result<Activity<A>, Want>
+        ensures ok { IfOk result (λ activity. DoesMeant self.old (record self.new { activity = activity })) }
         ensures err { IfErr result (λ want. want ≡ Want.Memory) }
         ensures same { OnErr result (self.new ≡ self.old) }
     {
         let line = first_line(self.lines.as_slice());
-        let way = do_line(alloc, &mut self.panel, tried_by(self.settings), line)?;
+        let activity = do_line(alloc, &mut self.panel, tried_by(self.settings), line)?;
         self.is_warned = still_warned(self.is_warned, line);
-        self.is_stepping = is_once(own_of(line));
+        self.is_stepping = is_once(kind_of_line(line));
         self.is_scripted = false;
-        self.source.leave_line();
+        self.asides.leave_line();
         let mut said = meant_text(alloc, line);
-        said.add(self.way_text(&way));
+        said.add(self.asides.of_activity(self.settings.manner, &activity));
         self.screen.say(said.as_slice());
         drop_line(&mut self.lines);
-        Ok(way)
+        Ok(activity)
     }
 
     /// Does the first line of the script.
-    fn do_scripted(&mut self, alloc: A) -> Result<Way<A>, Want>
-        ensures ok { IfOk result (λ way. DoesScripted self.old (record self.new { way = way })) }
+    fn do_scripted(&mut self, alloc: A) -> Result<Activity<A>, Want>
+        ensures ok { IfOk result (λ activity. DoesScripted self.old (record self.new { activity = activity })) }
         ensures err { IfErr result (λ want. want ≡ Want.Memory) }
         ensures same { OnErr result (self.new ≡ self.old) }
     {
         let how = tried_by(self.settings);
-        let way = try_text(
+        let activity = try_text(
             alloc,
             &mut self.panel,
             how,
             first_line(self.script.as_slice()),
         )?;
-        self.source.begin_line(first_line(self.script.as_slice()));
+        self.asides.begin_line(first_line(self.script.as_slice()));
         drop_line(&mut self.script);
         self.is_scripted = true;
         self.is_warned = false;
-        Ok(way)
+        Ok(activity)
     }
 
-    pub(super) fn do_given(&mut self, alloc: A) -> Result<Way<A>, NoMemory>
-        ensures ok { IfOk result (λ way. DoesGiven self.old (record self.new { way = way })) }
+    pub(super) fn do_given(&mut self, alloc: A) -> Result<Activity<A>, NoMemory>
+        ensures ok { IfOk result (λ activity. DoesGiven self.old (record self.new { activity = activity })) }
         ensures same { OnErr result (self.new ≡ self.old) }
     {
         let line = first_line(self.waiting.as_slice());
-        let way = do_line(alloc, &mut self.panel, tried_by(self.settings), line)?;
+        let activity = do_line(alloc, &mut self.panel, tried_by(self.settings), line)?;
         self.is_warned = still_warned(self.is_warned, line);
         self.is_scripted = false;
-        self.source.leave_line();
-        let said = self.way_text(&way);
+        self.asides.leave_line();
+        let said = self.asides.of_activity(self.settings.manner, &activity);
         self.screen.say(said);
         drop_line(&mut self.waiting);
-        Ok(way)
+        Ok(activity)
     }
 
     /// Reads the line that was typed: as it stands it is done, or the lines in its place come next.
     #[tactic(auto, unfolding(crate::specs::Steps::Reads), using(crate::proofs::Meanings::meant_is))]
-    pub(super) fn read_line(&mut self, alloc: A) -> Result<Way<A>, Want>
-        ensures ok { IfOk result (λ way. Reads self.old (record self.new { way = way })) }
+    pub(super) fn read_line(&mut self, alloc: A) -> Result<Activity<A>, Want>
+        ensures ok { IfOk result (λ activity. Reads self.old (record self.new { activity = activity })) }
         ensures err { IfErr result (λ want. want ≡ Want.Memory) }
         ensures same { OnErr result (self.new ≡ self.old) }
     {
@@ -181,7 +134,7 @@ impl<A: Allocator + Copy> Console<A> {
                 let note = why_no_phrase(alloc, refusal, self.typist.editor.text());
                 self.is_stepping = false;
                 self.is_scripted = false;
-                self.source.leave_line();
+                self.asides.leave_line();
                 Ok(refused(alloc, Fault::BadLine, note))
             }
             Ok(phrase) => self.do_phrase(alloc, phrase),
@@ -189,18 +142,18 @@ impl<A: Allocator + Copy> Console<A> {
     }
 
     /// Does `step` once more.
-    fn step_again(&mut self, alloc: A) -> Way<A>
-        ensures { StepsAgain self.old (record self.new { way = result }) }
+    fn step_again(&mut self, alloc: A) -> Activity<A>
+        ensures { StepsAgain self.old (record self.new { activity = result }) }
     {
         self.is_scripted = false;
         self.is_warned = false;
-        self.source.leave_line();
+        self.asides.leave_line();
         self.screen.say(b"= step\n");
         begin_run(alloc, 1, false)
     }
 
-    fn do_phrase(&mut self, alloc: A, phrase: Phrase<A>) -> Result<Way<A>, Want>
-        ensures ok { IfOk result (λ way. DoesPhrase phrase.lines phrase.place self.old.typist.editor.line.text self.old (record self.new { way = way })) }
+    fn do_phrase(&mut self, alloc: A, phrase: Phrase<A>) -> Result<Activity<A>, Want>
+        ensures ok { IfOk result (λ activity. DoesPhrase phrase.lines phrase.place self.old.typist.editor.line.text self.old (record self.new { activity = activity })) }
         ensures err { IfErr result (λ want. want ≡ Want.Memory) }
         ensures same { OnErr result (self.new ≡ self.old) }
     {
@@ -208,50 +161,50 @@ impl<A: Allocator + Copy> Console<A> {
         match lines {
             None => {
                 let line = self.typist.editor.text();
-                let way = do_line(alloc, &mut self.panel, tried_by(self.settings), line)?;
+                let activity = do_line(alloc, &mut self.panel, tried_by(self.settings), line)?;
                 self.is_warned = still_warned(self.is_warned, line);
                 self.place = place;
-                self.is_stepping = is_once(own_of(line));
+                self.is_stepping = is_once(kind_of_line(line));
                 self.is_scripted = false;
-                self.source.leave_line();
-                let said = self.way_text(&way);
+                self.asides.leave_line();
+                let said = self.asides.of_activity(self.settings.manner, &activity);
                 self.screen.say(said);
-                Ok(way)
+                Ok(activity)
             }
             Some(lines) => {
                 self.lines = Buffer::of(lines.into_vec());
                 self.place = place;
-                Ok(Way::Free)
+                Ok(Activity::Free)
             }
         }
     }
 
     /// The end, unless there is a pack that is in no file, and that wasn't told.
     #[tactic(auto, unfolding(crate::specs::Steps::Leaves))]
-    pub(super) fn leave(&mut self, alloc: A) -> Result<Way<A>, Want>
-        ensures ok { IfOk result (λ way. Leaves self.old (record self.new { way = way })) }
+    pub(super) fn leave(&mut self, alloc: A) -> Result<Activity<A>, Want>
+        ensures ok { IfOk result (λ activity. Leaves self.old (record self.new { activity = activity })) }
         ensures err { IfErr result (λ want. want ≡ Want.Memory) }
         ensures same { OnErr result (self.new ≡ self.old) }
     {
         if self.is_warned {
             self.screen.say(b"");
-            return Ok(Way::Over);
+            return Ok(Activity::Over);
         }
         let at_once = self.is_over || self.settings.is_saveless;
         let mut said = Text::new(alloc);
         let found = any_unsaved(alloc, &mut self.panel, &self.saved, &mut said);
         let is_over = at_once || !found?;
         if is_over {
-            add_unwritten(&mut said, self.unwritten.as_slice());
+            self.asides.add_unwritten(&mut said);
         } else {
             said.add(b"A second quit leaves, and what no file has is lost.\n");
         }
         self.screen.say(said.as_slice());
         if is_over {
-            return Ok(Way::Over);
+            return Ok(Activity::Over);
         }
         self.is_warned = true;
-        Ok(Way::Free)
+        Ok(Activity::Free)
     }
 }
 
@@ -274,53 +227,40 @@ fn why_no_phrase<A: Allocator>(alloc: A, refusal: Refusal, typed: &[u8]) -> Note
     Note::of(text.into_vec())
 }
 
-/// Adds which files weren't written, since none was to be.
-fn add_unwritten<A: Allocator>(text: &mut Text<A>, names: &[Bytes<A>]) {
-    if names.is_empty() {
-        return;
-    }
-    text.add(b"--no-save: not written:");
-    for name in names {
-        text.add(b" ");
-        text.add(name.as_slice());
-    }
-    text.add(b"\n");
-}
-
 /// What comes behind a script.
-fn goes_behind<A: Allocator>(is_all: bool, is_to_talk: bool) -> Way<A>
-    ensures { result ≡ (if is_all then Way.Over else (if is_to_talk then Way.Running talk_of else Way.Typing)) }
+fn goes_behind<A: Allocator>(is_all: bool, is_to_talk: bool) -> Activity<A>
+    ensures { result ≡ (if is_all then Activity.Over else (if is_to_talk then Activity.Running talk_of else Activity.Typing)) }
 {
     if is_all {
-        return Way::Over;
+        return Activity::Over;
     }
     if is_to_talk {
-        return Way::Running(talk_of());
+        return Activity::Running(talk_of());
     }
-    Way::Typing
+    Activity::Typing
 }
 
 #[tactic(auto, unfolding(crate::specs::Steps::still_warned))]
 fn still_warned(is_warned: bool, line: &[u8]) -> bool
     ensures { result ≡ still_warned is_warned line.now }
 {
-    is_warned && is_quit(own_of(line))
+    is_warned && is_quit(kind_of_line(line))
 }
 
-fn is_once(own: Own) -> bool
-    ensures { result ≡ is_once own }
+fn is_once(kind: LineKind) -> bool
+    ensures { result ≡ is_once kind }
 {
-    match own {
-        Own::Once => true,
+    match kind {
+        LineKind::Once => true,
         _ => false,
     }
 }
 
-fn is_quit(own: Own) -> bool
-    ensures { result ≡ is_quit own }
+fn is_quit(kind: LineKind) -> bool
+    ensures { result ≡ is_quit kind }
 {
-    match own {
-        Own::Quit => true,
+    match kind {
+        LineKind::Quit => true,
         _ => false,
     }
 }

@@ -1,31 +1,33 @@
 // A pack that is taken off its drive.
 ghost use Rattle.std.specs.Prelude.{◌≡◌, false, None, slice_get, OnErr, IfOk, IfErr};
-ghost use Rattle.p11_console.specs.Said.{Says};
+ghost use Rattle.p11_dialogue.specs.Said.{Says};
 ghost use Rattle.p11_console.specs.Steps.{Consents, Unmounts, loses};
 
 use super::Console;
 use super::typed::agrees;
 use crate::packs::loses_sectors;
-use crate::record::record_unmount;
-use crate::text::Text;
 use crate::tries::act;
-use crate::want::Want;
-use crate::way::Way;
+use p11_dialogue::{Activity, Text, Want, record_unmount};
 use p11_lines::NoMemory;
 use p11_panel::Command;
 use std::alloc::Allocator;
 
 impl<A: Allocator + Copy> Console<A> {
     /// Takes a pack off its drive; where no file has it, a person is asked first.
-    pub(super) fn unmount(&mut self, alloc: A, drive: u32, is_agreed: bool) -> Result<Way<A>, Want>
-        ensures ok { IfOk result (λ way. Unmounts is_agreed drive self.old (record self.new { way = way })) }
+    pub(super) fn unmount(
+        &mut self,
+        alloc: A,
+        drive: u32,
+        is_agreed: bool,
+    ) -> Result<Activity<A>, Want>
+        ensures ok { IfOk result (λ activity. Unmounts is_agreed drive self.old (record self.new { activity = activity })) }
         ensures err { IfErr result (λ want. want ≡ Want.Memory) }
         ensures same { OnErr result (self.new ≡ self.old) }
     {
         let text = record_unmount(alloc, drive)?;
         if self.loses(alloc, drive, is_agreed)? {
             self.ask_of(alloc, drive);
-            return Ok(Way::Doubting { drive });
+            return Ok(Activity::Doubting { drive });
         }
         Ok(act(alloc, &mut self.panel, Command::Unmount { drive }, text))
     }
@@ -54,15 +56,15 @@ impl<A: Allocator + Copy> Console<A> {
     }
 
     /// Takes the answer to that question.
-    pub(super) fn take_consent(&mut self, drive: u32) -> Result<Way<A>, Want>
-        ensures ok { IfOk result (λ way. Consents (slice_get self.old.waiting 0) drive self.old (record self.new { way = way })) }
+    pub(super) fn take_consent(&mut self, drive: u32) -> Result<Activity<A>, Want>
+        ensures ok { IfOk result (λ activity. Consents (slice_get self.old.waiting 0) drive self.old (record self.new { activity = activity })) }
         ensures err { IfErr result (λ want. (want ≡ Want.Keys) × (slice_get self.old.waiting 0 ≡ None) × (self.old.is_over ≡ false)) }
         ensures same { OnErr result (self.new ≡ self.old) }
     {
         let Some(byte) = self.waiting.first() else {
             if self.is_over {
                 self.screen.say(consent_text(false));
-                return Ok(Way::Free);
+                return Ok(Activity::Free);
             }
             return Err(Want::Keys);
         };
@@ -70,12 +72,12 @@ impl<A: Allocator + Copy> Console<A> {
         self.waiting.drop_front(1);
         self.screen.say(consent_text(is_agreed));
         if is_agreed {
-            return Ok(Way::Unmounting {
+            return Ok(Activity::Unmounting {
                 drive,
                 is_agreed: true,
             });
         }
-        Ok(Way::Free)
+        Ok(Activity::Free)
     }
 }
 

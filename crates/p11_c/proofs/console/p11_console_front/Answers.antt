@@ -2,8 +2,8 @@ use Rattle.std.proofs.Common.{◌∙◌, List, ℕ, refl, ap, subst, to_z-of_z, 
 use Rattle.p11_line_editor.specs.Completion.{word_of}
 use Rattle.p11_handles.specs.Calls.{lent}
 use Rattle.p11_handles.specs.HeldCalls.{HandsText}
-use Rattle.p11_handles.specs.Seats.{Dialogue}
-use Rattle.p11_handles.proofs.SeatLemmas.{on_none, on_some}
+use Rattle.p11_handles.specs.HeldConsoles.{Dialogue}
+use Rattle.p11_handles.proofs.ConsoleLemmas.{on_none, on_some}
 use Rattle.p11_c.proofs.console.p11_console_front.Goals as goal
 
 pub returns-in_default : goal.returns-in_default
@@ -14,6 +14,6 @@ returns-in_default c =
 pub returns : goal.returns
 returns c =
     let P : List ℕ → Type 0 = λ t. HandsText c.hand_text-status.result t (lent c.args.bytes.now c.args.bytes_length.now) (lent c.hand_text-status.new.out c.hand_text-status.new.out_length) in
-    on_some _ _ c.args.handle.now.slot.held c.put.new.self.slot.held _ c.in-Some.seat.value c.in-Some.seat.value c.hand_text-status.result c.in-Some.ensures.taken
+    on_some _ _ c.args.handle.now.slot.held c.put.new.self.slot.held _ c.in-Some.console.value c.in-Some.console.value c.hand_text-status.result c.in-Some.ensures.taken
     (to_z-of_z {w = w32} {z = c.number-2.result} (record { sfits = c.number-2.type_inv }) ∙ c.number-2.ensures) c.put.ensures
     (refl, subst P (c.front.ensures ∙ ap (λ (k : Dialogue). word_of k.typist.editor.line) c.deref.ensures) c.hand_text-status.ensures)

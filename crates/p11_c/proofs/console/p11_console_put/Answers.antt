@@ -1,8 +1,8 @@
 use Rattle.std.proofs.Common.{◌∙◌, refl, subst, to_z-of_z, w32}
-use Rattle.p11_handles.specs.SeatCalls.{TakesBy}
-use Rattle.p11_handles.specs.Seats.{Dialogue}
+use Rattle.p11_handles.specs.ConsoleCalls.{TakesBy}
+use Rattle.p11_handles.specs.HeldConsoles.{Dialogue}
 use Rattle.p11_handles.specs.declared.status.Status.TheVariants.{Done}
-use Rattle.p11_handles.proofs.SeatLemmas.{on_none, on_some}
+use Rattle.p11_handles.proofs.ConsoleLemmas.{on_none, on_some}
 use Rattle.p11_c.proofs.console.p11_console_put.Goals as goal
 
 pub returns-in_default : goal.returns-in_default
@@ -13,6 +13,6 @@ returns-in_default c =
 pub returns : goal.returns
 returns c =
     let From : Dialogue → Type 0 = λ k. TakesBy c.args.trouble k c.written.new.self in
-    on_some _ _ c.args.handle.now.slot.held c.put.new.self.slot.held _ c.in-Some.seat.value c.written.new.self Done c.in-Some.ensures.taken
+    on_some _ _ c.args.handle.now.slot.held c.put.new.self.slot.held _ c.in-Some.console.value c.written.new.self Done c.in-Some.ensures.taken
     (to_z-of_z {w = w32} {z = c.number-2.result} (record { sfits = c.number-2.type_inv }) ∙ c.number-2.ensures) c.put.ensures
     (refl, subst From c.deref_mut.ensures.value c.written.ensures)

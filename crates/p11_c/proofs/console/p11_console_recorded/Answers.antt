@@ -1,7 +1,7 @@
 use Rattle.std.proofs.Common.{◌∙◌, subst, ◌≡◌, drop, to_z-of_z, w32}
-use Rattle.p11_handles.specs.SeatCalls.{TakesFront}
-use Rattle.p11_handles.specs.Seats.{Dialogue}
-use Rattle.p11_handles.proofs.SeatLemmas.{on_none, on_some}
+use Rattle.p11_handles.specs.ConsoleCalls.{TakesFront}
+use Rattle.p11_handles.specs.HeldConsoles.{Dialogue}
+use Rattle.p11_handles.proofs.ConsoleLemmas.{on_none, on_some}
 use Rattle.p11_c.proofs.console.p11_console_recorded.Goals as goal
 
 pub returns-in_default : goal.returns-in_default
@@ -12,6 +12,6 @@ returns-in_default c =
 pub returns : goal.returns
 returns c =
     let From : Dialogue → Type 0 = λ k. TakesFront c.recorded-status.result c.args.count k.journal (c.recorded-status.new.self ≡ record k { journal = drop c.args.count k.journal }) (c.recorded-status.new.self ≡ k) in
-    on_some _ _ c.args.handle.now.slot.held c.put.new.self.slot.held _ c.in-Some.seat.value c.recorded-status.new.self c.recorded-status.result c.in-Some.ensures.taken
+    on_some _ _ c.args.handle.now.slot.held c.put.new.self.slot.held _ c.in-Some.console.value c.recorded-status.new.self c.recorded-status.result c.in-Some.ensures.taken
     (to_z-of_z {w = w32} {z = c.number-2.result} (record { sfits = c.number-2.type_inv }) ∙ c.number-2.ensures) c.put.ensures
     (subst From c.deref_mut.ensures.value c.recorded-status.ensures)

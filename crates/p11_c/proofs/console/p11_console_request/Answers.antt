@@ -1,9 +1,9 @@
 use Rattle.std.proofs.Common.{◌∙◌, refl, ap, to_z-of_z, w32}
 use Rattle.p11_console.specs.Files.{may_replace, is_pack}
-use Rattle.p11_handles.specs.Seats.{Dialogue}
-use Rattle.p11_handles.specs.SeatCalls.{number_of_bool}
+use Rattle.p11_handles.specs.HeldConsoles.{Dialogue}
+use Rattle.p11_handles.specs.ConsoleCalls.{number_of_bool}
 use Rattle.p11_handles.specs.declared.status.Status.TheVariants.{Done}
-use Rattle.p11_handles.proofs.SeatLemmas.{on_none, on_some}
+use Rattle.p11_handles.proofs.ConsoleLemmas.{on_none, on_some}
 use Rattle.p11_c.proofs.console.p11_console_request.Goals as goal
 
 pub returns-in_default : goal.returns-in_default
@@ -13,10 +13,10 @@ returns-in_default c =
 
 pub returns : goal.returns
 returns c =
-    on_some _ _ c.args.handle.now.slot.held c.put.new.self.slot.held _ c.in-Some.seat.value c.in-Some.seat.value Done c.in-Some.ensures.taken
+    on_some _ _ c.args.handle.now.slot.held c.put.new.self.slot.held _ c.in-Some.console.value c.in-Some.console.value Done c.in-Some.ensures.taken
     (to_z-of_z {w = w32} {z = c.number-2.result} (record { sfits = c.number-2.type_inv }) ∙ c.number-2.ensures) c.put.ensures (
       refl,
       refl,
-      c.number_of_bool.ensures ∙ ap number_of_bool (c.may_replace.ensures ∙ ap (λ (k : Dialogue). may_replace k.way) c.deref.ensures),
-      c.number_of_bool-2.ensures ∙ ap number_of_bool (c.is_pack.ensures ∙ ap (λ (k : Dialogue). is_pack k.way) c.deref-2.ensures),
+      c.number_of_bool.ensures ∙ ap number_of_bool (c.may_replace.ensures ∙ ap (λ (k : Dialogue). may_replace k.activity) c.deref.ensures),
+      c.number_of_bool-2.ensures ∙ ap number_of_bool (c.is_pack.ensures ∙ ap (λ (k : Dialogue). is_pack k.activity) c.deref-2.ensures),
     )

@@ -1,7 +1,7 @@
 use Rattle.std.proofs.Common.{◌∙◌, refl, subst, ◌≡◌, to_z-of_z, w32}
-use Rattle.p11_handles.specs.Seats.{Dialogue}
+use Rattle.p11_handles.specs.HeldConsoles.{Dialogue}
 use Rattle.p11_handles.specs.declared.status.Status.TheVariants.{Done}
-use Rattle.p11_handles.proofs.SeatLemmas.{on_none, on_some}
+use Rattle.p11_handles.proofs.ConsoleLemmas.{on_none, on_some}
 use Rattle.p11_c.proofs.console.p11_console_told.Goals as goal
 
 pub returns-in_default : goal.returns-in_default
@@ -12,6 +12,6 @@ returns-in_default c =
 pub returns : goal.returns
 returns c =
     let From : Dialogue → Type 0 = λ k. c.told.new.self ≡ k in
-    on_some _ _ c.args.handle.now.slot.held c.put.new.self.slot.held _ c.in-Some.seat.value c.told.new.self Done c.in-Some.ensures.taken
+    on_some _ _ c.args.handle.now.slot.held c.put.new.self.slot.held _ c.in-Some.console.value c.told.new.self Done c.in-Some.ensures.taken
     (to_z-of_z {w = w32} {z = c.number-2.result} (record { sfits = c.number-2.type_inv }) ∙ c.number-2.ensures) c.put.ensures
     (refl, subst From c.deref_mut.ensures.value c.told.ensures)

@@ -1,0 +1,2 @@
+-- Lemmas on bytes that are taken out.
+pub mod Removing

@@ -1,4 +1,0 @@
-use Rattle.p11_handles.proofs.desk.Desk.play.Given as goal
-
-abbrev pub ghosts-play_lines : goal.ghosts-play_lines
-ghosts-play_lines a = record { name = a.blank.name; parts = a.blank.parts }
