@@ -1,7 +1,8 @@
 -- How the program ends: its exit status, and what it says.
-use Rattle.std.specs.Prelude.{ℕ, Bool, true, false, ◌&&◌, not, List, [], Option, ⊤, codes, if◌then◌else◌}
-use Rattle.std.specs.Io.KnownBytes.{Appends}
+use Rattle.std.specs.Prelude.{◌≡◌, ◌⊎◌, ℕ, List, [], codes}
 use Rattle.std.specs.String.{string_bytes}
+use Rattle.p11_lines.specs.Writers.{WriterState, Writes}
+use Rattle.p11_lines.specs.Written.{AppendsFront}
 use Rattle.p11_arguments.specs.declared.arguments.Unasked.{Unasked}
 use Rattle.p11_arguments.specs.declared.arguments.Unasked.TheVariants as reasons
 use Rattle.p11_panel.specs.declared.script.SessionFault.TheVariants.{Reading, Writing, TooLong}
@@ -38,31 +39,26 @@ text_of (Session Reading) = codes "p11: read fault\n"
 text_of (Session Writing) = codes "p11: write fault\n"
 text_of (Session TooLong) = codes "p11: script too long\n"
 
-abbrev pub is_help : Cause → Bool
-is_help Done = false
-is_help (Help text) = true
-is_help (Usage text) = false
-is_help NotUtf8 = false
-is_help BadSize = false
-is_help NoFolder = false
-is_help NoMemory = false
-is_help (Session fault) = false
+-- all of a text is written; or a front, not all, and the last write failed or took nothing, and no other
+abbrev pub Says : WriterState → WriterState → List ℕ → Type 0
+Says old new text = Writes old new text [] ⊎ AppendsFront old new text
 
--- How it ends once its text was said, or could not be. The status is the cause's, whatever became of its text; but
--- help that can't be said is a write fault, which is then said on standard error.
-unfoldable pub status_after : Cause → Bool → ℕ
-status_after cause said = if is_help cause && not said then status_of (Session Writing) else status_of cause
+-- An ending with this status and text, by what standard output and standard error were and are: the text is said on standard error,
+-- and nothing on standard output.
+abbrev pub EndsWith : Cause → ℕ → WriterState → WriterState → WriterState → WriterState → Type 0
+EndsWith cause status output output' errors errors' =
+    (status ≡ status_of cause) × (output' ≡ output) × Says errors errors' (text_of cause)
 
-unfoldable pub text_after : Cause → Bool → List ℕ
-text_after cause said = if is_help cause && not said then text_of (Session Writing) else []
-
--- Where the bytes of standard output are known: all of the help's text is written to it. The other causes say nothing there.
-abbrev pub SaysHelp : Cause → Option (List ℕ) → Option (List ℕ) → Type 0
-SaysHelp Done old new = ⊤
-SaysHelp (Help text) old new = Appends old new (string_bytes text)
-SaysHelp (Usage text) old new = ⊤
-SaysHelp NotUtf8 old new = ⊤
-SaysHelp BadSize old new = ⊤
-SaysHelp NoFolder old new = ⊤
-SaysHelp NoMemory old new = ⊤
-SaysHelp (Session fault) old new = ⊤
+-- Help is said on standard output, with status 0 and nothing on standard error; help that can't be written whole is a write fault.
+abbrev pub EndsBy : Cause → ℕ → WriterState → WriterState → WriterState → WriterState → Type 0
+EndsBy (Help text) status output output' errors errors' =
+    ((status ≡ 0) × Writes output output' (string_bytes text) [] × (errors' ≡ errors))
+    ⊎ ((status ≡ status_of (Session Writing)) × AppendsFront output output' (string_bytes text)
+    × Says errors errors' (text_of (Session Writing)))
+EndsBy Done status output output' errors errors' = EndsWith Done status output output' errors errors'
+EndsBy (Usage text) status output output' errors errors' = EndsWith (Usage text) status output output' errors errors'
+EndsBy NotUtf8 status output output' errors errors' = EndsWith NotUtf8 status output output' errors errors'
+EndsBy BadSize status output output' errors errors' = EndsWith BadSize status output output' errors errors'
+EndsBy NoFolder status output output' errors errors' = EndsWith NoFolder status output output' errors errors'
+EndsBy NoMemory status output output' errors errors' = EndsWith NoMemory status output output' errors errors'
+EndsBy (Session fault) status output output' errors errors' = EndsWith (Session fault) status output output' errors errors'

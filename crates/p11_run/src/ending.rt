@@ -1,6 +1,6 @@
 //! The exit status and the message of each way in which the program ends.
 ghost use Rattle.std.specs.Prelude.{◌≡◌};
-ghost use Rattle.p11_run.specs.Endings.{cause_of, status_of, text_of, status_after, text_after};
+ghost use Rattle.p11_run.specs.Endings.{cause_of, status_of, text_of};
 ghost use Rattle.p11_run.specs.declared.ending.Cause.TheVariants as causes;
 
 use p11_arguments::Unasked;
@@ -44,28 +44,6 @@ pub fn ending(cause: &Cause) -> (u8, &str)
         Cause::Session(SessionFault::Reading) => (1, "p11: read fault\n"),
         Cause::Session(SessionFault::Writing) => (1, "p11: write fault\n"),
         Cause::Session(SessionFault::TooLong) => (1, "p11: script too long\n"),
-    }
-}
-
-/// The exit status once the cause's text was said or could not be, and what is then said on standard error.
-///
-/// The status is the cause's, whatever became of its text; but help that can't be said is a write fault.
-#[tactic(auto, unfolding(crate::specs::Endings::status_after, crate::specs::Endings::text_after))]
-pub fn ending_after(cause: &Cause, said: bool) -> (u8, &'static str)
-    ensures status { result.0 ≡ status_after cause.now said }
-    ensures text { result.1.now ≡ text_after cause.now said }
-{
-    match cause {
-        Cause::Help(_) => {
-            if said {
-                return (0, "");
-            }
-            (1, "p11: write fault\n")
-        }
-        Cause::Done => (0, ""),
-        Cause::Usage(_) | Cause::NotUtf8 | Cause::BadSize => (2, ""),
-        Cause::NoMemory => (3, ""),
-        Cause::NoFolder | Cause::Session(_) => (1, ""),
     }
 }
 

@@ -1,43 +1,51 @@
 // What the program says as it ends, and its exit status.
-ghost use Rattle.std.specs.Prelude.{◌≡◌, Bool, IsTrue};
-ghost use Rattle.std.specs.Io.KnownBytes.{Appends};
-ghost use Rattle.p11_run.specs.Endings.{SaysHelp, status_after, text_of};
+ghost use Rattle.std.specs.Prelude.{◌≡◌, [], OnOk, OnErr};
+ghost use Rattle.p11_lines.specs.Writers.{Writes};
+ghost use Rattle.p11_lines.specs.Written.{AppendsFront};
+ghost use Rattle.p11_run.specs.Endings.{EndsBy, Says, status_of, text_of};
 
-use crate::ending::{Cause, ending, ending_after};
-use std::io::Write;
+use crate::ending::{Cause, ending};
+use p11_lines::{Broken, Sink};
+use p11_panel::SessionFault;
 
-/// Writes a text; whether all of it was taken.
-fn say<W: Write>(writer: &mut W, text: &str) -> bool
-    ensures { IsTrue result → Appends (W.contents writer.old) (W.contents writer.new) text.now }
+/// Writes a text. A write that failed isn't tried again.
+fn say<W: Sink>(writer: &mut W, text: &str) -> Result<(), Broken>
+    ensures ok { OnOk result (Writes (W.state writer.old) (W.state writer.new) text.now []) }
+    ensures err { OnErr result (AppendsFront (W.state writer.old) (W.state writer.new) text.now) }
 {
-    writer.write_all(text.as_bytes()).is_ok()
-}
-
-/// Says why the program ends: help on standard output, and all else on standard error; whether that could be written.
-fn say_cause<W: Write, E: Write>(output: &mut W, errors: &mut E, cause: &Cause) -> bool
-    ensures { IsTrue result → SaysHelp cause.now (W.contents output.old) (W.contents output.new) }
-{
-    let (_, text) = ending(cause);
-    match cause {
-        Cause::Done => true,
-        Cause::Help(help) => say(output, help.as_str()),
-        Cause::Usage(_) => say(errors, text),
-        Cause::NotUtf8 => say(errors, text),
-        Cause::BadSize => say(errors, text),
-        Cause::NoFolder => say(errors, text),
-        Cause::NoMemory => say(errors, text),
-        Cause::Session(_) => say(errors, text),
+    let mut rest = text.as_bytes();
+    while !rest.is_empty() {
+        match writer.write(rest) {
+            Ok(0) => return Err(Broken),
+            Ok(count) => rest = &rest[count..],
+            Err(_) => return Err(Broken),
+        }
     }
+    Ok(())
 }
 
-/// Says on standard output and standard error why the program ends: its exit status. That is 0 for help only where all
-/// of its text was written; else it is that of a write fault, which is then said on standard error.
-pub(crate) fn finish<W: Write, E: Write>(output: &mut W, errors: &mut E, cause: &Cause) -> u8
-    ensures { (said : Bool) × (result ≡ status_after cause.now said)
-        × (IsTrue said → SaysHelp cause.now (W.contents output.old) (W.contents output.new)) }
+/// Says on standard output and standard error why the program ends: its exit status. Help goes to standard output, and all
+/// else to standard error. Help that can't be written whole is a write fault, which is then said on standard error.
+pub(crate) fn finish<O: Sink, E: Sink>(output: &mut O, errors: &mut E, cause: &Cause) -> u8
+    ensures { EndsBy cause.now result (O.state output.old) (O.state output.new) (E.state errors.old) (E.state errors.new) }
 {
-    let said = say_cause(output, errors, cause);
-    let (status, rest) = ending_after(cause, said);
-    let _ = say(errors, rest);
-    status
+    if let Cause::Help(help) = cause {
+        if say(output, help.as_str()).is_ok() {
+            return 0;
+        }
+        return finish_on_errors(errors, &Cause::Session(SessionFault::Writing));
+    }
+    finish_on_errors(errors, cause)
+}
+
+/// Says on standard error why the program ends: its exit status.
+fn finish_on_errors<E: Sink>(errors: &mut E, cause: &Cause) -> u8
+    ensures status { result ≡ status_of cause.now }
+    ensures text { Says (E.state errors.old) (E.state errors.new) (text_of cause.now) }
+{
+    let (status, text) = ending(cause);
+    match say(errors, text) {
+        Ok(()) => status,
+        Err(_) => status,
+    }
 }

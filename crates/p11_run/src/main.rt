@@ -31,7 +31,9 @@ fn main(rt: HostRuntime) -> ExitCode {
         Ok(()) => Cause::Done,
         Err(cause) => cause,
     };
-    ExitCode::from(finish(&mut io::writer(&rt), &mut rt.stderr(), &cause))
+    let mut output = ToldWriter::new(io::writer(&rt));
+    let mut errors = ToldWriter::new(rt.stderr());
+    ExitCode::from(finish(&mut output, &mut errors, &cause))
 }
 
 /// Reads the command line, and runs the script that it names.

@@ -1,0 +1,2 @@
+-- Lemmas on what a writer has taken.
+pub mod Writing

@@ -1,3 +1,4 @@
 -- Which bytes pass to a terminal, and how the others are shown.
 pub mod Sequences
 pub mod Screen
+pub mod Outlets

@@ -4,9 +4,11 @@
 //! be given: what programs for a VT52, a VT100 or a VT102 need. All else is shown by printing bytes.
 #![tactic(auto)]
 
+mod outlet;
 mod phase;
 mod readable;
 mod screen;
 
+pub use outlet::{Outlet, OutletFault};
 pub use phase::{Phase, Verdict};
 pub use screen::Screen;

@@ -1,5 +1,6 @@
 // How the program ends.
 use p11_panel::NoMemory;
+use p11_shown::OutletFault;
 use std::alloc::AllocError;
 
 /// Why the program ends.
@@ -40,6 +41,15 @@ impl From<AllocError> for Cause {
 impl From<NoMemory> for Cause {
     fn from(_: NoMemory) -> Self {
         Cause::NoMemory
+    }
+}
+
+impl From<OutletFault> for Cause {
+    fn from(fault: OutletFault) -> Self {
+        match fault {
+            OutletFault::NoMemory => Cause::NoMemory,
+            OutletFault::Writing => Cause::Writing,
+        }
     }
 }
 

@@ -3,10 +3,12 @@ use crate::ending::Cause;
 use crate::files::Files;
 use crate::folder::names_of;
 use crate::journal::Journal;
-use crate::outlet::Outlet;
+use crate::notice::notice;
 use crate::rescue::Rescues;
 use crate::window::{Told, told_in};
 use p11_console::{Console, Want};
+use p11_host::{Course, End, end_of};
+use p11_shown::{Outlet, OutletFault};
 use std::fs::File;
 use std::io::{IsTerminal, Read, Stderr, Stdin, Stdout, Write};
 use std::os::unix::process::parent_id;
@@ -109,14 +111,16 @@ impl<L: Ledger> Host<'_, L> {
 
     /// How the dialogue ended.
     fn ending(&self) -> Cause {
-        if self.has_read_fault {
-            Cause::Reading
-        } else if self.has_write_fault {
-            Cause::Writing
-        } else if self.journal.is_torn() || self.last_steps.is_some() {
-            Cause::Done(1)
-        } else {
-            Cause::Done(self.console.status())
+        let course = Course {
+            has_read_fault: self.has_read_fault,
+            has_write_fault: self.has_write_fault,
+            is_torn: self.journal.is_torn(),
+            is_cut_off: self.last_steps.is_some(),
+        };
+        match end_of(course, self.console.status()) {
+            End::ReadFault => Cause::Reading,
+            End::WriteFault => Cause::Writing,
+            End::Status(status) => Cause::Done(status),
         }
     }
 
@@ -173,7 +177,7 @@ impl<L: Ledger> Host<'_, L> {
     }
 
     /// Where a person's screen takes nothing any more, the person is gone.
-    fn take_written(&mut self, done: Result<(), Cause>) -> Result<(), Cause> {
+    fn take_written(&mut self, done: Result<(), OutletFault>) -> Result<(), OutletFault> {
         if done.is_err() && self.is_typed {
             self.has_write_fault = true;
             self.cut_off();
@@ -286,7 +290,11 @@ impl<L: Ledger> Host<'_, L> {
     fn keep(&mut self, drive: u32, image: &[u8], is_said: bool) {
         match self.rescues.keep(drive, image) {
             Ok(file) if is_said => {
-                let _ = eprintln!(self.rt; "terminal: the pack on drive {drive} is kept in {file}");
+                if let Ok(text) = format!(in self.rt.alloc();
+                    "the pack on drive {drive} is kept in {file}"
+                ) {
+                    notice(self.rt, text.as_str());
+                }
             }
             Ok(_) => {}
             Err(fault) => self.say_lost(drive, fault.text()),
@@ -294,7 +302,11 @@ impl<L: Ledger> Host<'_, L> {
     }
 
     fn say_lost(&self, drive: u32, reason: &str) {
-        let _ = eprintln!(self.rt; "terminal: the pack on drive {drive} can't be kept: {reason}");
+        if let Ok(text) = format!(in self.rt.alloc();
+            "the pack on drive {drive} can't be kept: {reason}"
+        ) {
+            notice(self.rt, text.as_str());
+        }
     }
 
     /// Takes away the files in which packs were kept: the person knows of what isn't saved.

@@ -1,5 +1,6 @@
 // The record's file, which is a new one.
 use crate::ending::Cause;
+use crate::notice::notice;
 use crate::remark::remark;
 use crate::settings::Launch;
 use std::fs::{File, OpenOptions};
@@ -40,7 +41,9 @@ impl Journal {
             return;
         };
         if file.write_all(bytes).is_err() {
-            let _ = eprintln!(rt; "terminal: the record can't be written: {name}");
+            if let Ok(text) = format!(in rt.alloc(); "the record can't be written: {name}") {
+                notice(rt, text.as_str());
+            }
             self.file = None;
             self.is_torn = true;
         }
@@ -58,7 +61,10 @@ fn new_file(rt: &HostRuntime, name: &str) -> Result<(File, String), Cause> {
         {
             Ok(file) => {
                 if number > 1 {
-                    let _ = eprintln!(rt; "terminal: {name} is there: the record goes to {path}");
+                    let text = format!(in rt.alloc();
+                        "{name} is there: the record goes to {path}"
+                    )?;
+                    notice(rt, text.as_str());
                 }
                 return Ok((file, path));
             }

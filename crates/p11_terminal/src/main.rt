@@ -12,7 +12,7 @@ mod files;
 mod folder;
 mod host;
 mod journal;
-mod outlet;
+mod notice;
 mod past;
 mod remark;
 mod rescue;
@@ -23,13 +23,14 @@ use crate::ending::{Cause, ending};
 use crate::files::Files;
 use crate::host::Host;
 use crate::journal::Journal;
-use crate::outlet::Outlet;
+use crate::notice::say;
 use crate::past::open_past;
 use crate::rescue::Rescues;
 use crate::settings::{Launch, settings};
 use p11_console::{Console, Manner, Settings};
 use p11_files::FileStore;
 use p11_panel::Panel;
+use p11_shown::Outlet;
 use std::io::IsTerminal;
 use std::marker::Brand;
 use std::os::unix::process::parent_id;
@@ -45,8 +46,8 @@ fn main(rt: HostRuntime) -> ExitCode {
     };
     let (status, text) = ending(&cause);
     let is_said = match &cause {
-        Cause::Help(_) => rt.print(text).is_ok(),
-        _ => rt.eprint(text).is_ok() || status > 0,
+        Cause::Help(_) => say(rt.alloc(), rt.stdout(), text).is_ok(),
+        _ => say(rt.alloc(), rt.stderr(), text).is_ok() || status > 0,
     };
     ExitCode::from(if is_said { status } else { 1 })
 }

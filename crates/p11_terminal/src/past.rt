@@ -1,12 +1,10 @@
 // Lines of earlier dialogues, in a file of the owner's.
 use crate::ending::Cause;
 use p11_console::Console;
+use p11_host::is_typed;
 use std::fs;
 use std::fs::{File, OpenOptions};
 use std::io::ErrorKind;
-
-/// The most bytes of a line that is typed.
-const MOST_BYTES: usize = 4096;
 
 /// Gives a console the lines that the file has, the oldest first: the file, for further ones. It is made where it isn't there.
 pub(crate) fn open_past(
@@ -29,11 +27,4 @@ pub(crate) fn open_past(
         Ok(file) => Ok(file),
         Err(_) => Err(Cause::NoHistory),
     }
-}
-
-/// Whether a line has something, and keys can give it.
-fn is_typed(line: &[u8]) -> bool {
-    !line.is_empty()
-        && line.len() <= MOST_BYTES
-        && line.iter().all(|byte| b' ' <= *byte && *byte <= b'~')
 }

@@ -1,5 +1,7 @@
 // Packs that no file has, in files beside their images.
+use crate::notice::notice;
 use p11_files::{FileFault, replace_file};
+use p11_host::rescue_mode;
 use std::fs::OpenOptions;
 use std::io::ErrorKind;
 use std::os::unix::fs::{MetadataExt, OpenOptionsExt};
@@ -7,12 +9,6 @@ use std::{env, fs, process};
 
 /// The most names that are tried.
 const MOST_NAMES: u32 = 10_000;
-
-/// The mode of a file that its owner alone reads and writes.
-const OWN_MODE: u32 = 0o600;
-
-/// The bits of a mode that say who may read, write and run a file.
-const PERMISSION_BITS: u32 = 0o777;
 
 /// A pack in a drive: the path of its image, and the file in which it is kept, if it is.
 #[derive(Drop)]
@@ -102,9 +98,11 @@ fn say_those_of(rt: &HostRuntime, path: &str, rescue: &str) {
         if fs::metadata(rt, name.as_str()).is_err() {
             return;
         }
-        let _ = eprintln!(rt;
-            "terminal: {name} is there: an earlier dialogue was cut off, and left {path} so"
-        );
+        if let Ok(text) = format!(in rt.alloc();
+            "{name} is there: an earlier dialogue was cut off, and left {path} so"
+        ) {
+            notice(rt, text.as_str());
+        }
     }
 }
 
@@ -123,8 +121,9 @@ fn keep_pack(rt: &HostRuntime, pack: &mut Pack, image: &[u8]) -> Result<String, 
 
 /// Keeps a pack in a new file, beside its image or else in the user's folder for what programs leave.
 fn new_rescue(rt: &HostRuntime, path: &str, image: &[u8]) -> Result<String, FileFault> {
-    let mode = mode_of(rt, path);
-    if let Some(mode) = mode {
+    let image_mode = mode_of(rt, path);
+    let mode = rescue_mode(image_mode);
+    if image_mode.is_some() {
         let beside = format!(in rt.alloc(); "{path}.rescue")?;
         if let Ok(file) = leave(rt, beside.as_str(), mode, image) {
             return Ok(file);
@@ -132,14 +131,14 @@ fn new_rescue(rt: &HostRuntime, path: &str, image: &[u8]) -> Result<String, File
     }
     fs::create_dir_all(rt, state_folder(rt)?.as_str())?;
     let apart = path_apart(rt, path)?;
-    leave(rt, apart.as_str(), mode.unwrap_or(OWN_MODE), image)
+    leave(rt, apart.as_str(), mode, image)
 }
 
-/// Who may read, write and run the file of this path, if it is one.
+/// The mode of the file of this path, if it is one.
 fn mode_of(rt: &HostRuntime, path: &str) -> Option<u32> {
     let there = fs::metadata(rt, path).ok()?;
     if there.is_file() {
-        Some(there.mode() & PERMISSION_BITS)
+        Some(there.mode())
     } else {
         None
     }
@@ -153,7 +152,7 @@ fn leave(rt: &HostRuntime, path: &str, mode: u32, image: &[u8]) -> Result<String
     OpenOptions::new()
         .write(true)
         .create_new(true)
-        .mode(mode | OWN_MODE)
+        .mode(mode)
         .open(rt, own.as_str())?;
     if let Err(fault) = replace_file(rt, None, own.as_bytes(), image) {
         let _ = fs::remove_file(rt, own.as_str());

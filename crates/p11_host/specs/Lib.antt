@@ -1,0 +1,2 @@
+-- What the host of a dialogue decides.
+pub mod Hosts
