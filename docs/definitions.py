@@ -13,7 +13,7 @@ import re
 CRATES = os.path.join(os.path.dirname(os.path.abspath(__file__)), "..", "crates")
 NAME = re.compile(r"[A-Za-z_][\w']*(?:\.[A-Za-z_][\w']*)*")
 USE = re.compile(r"use\s+Rattle\.([\w.]+?)(?:\.\{([^}]*)\}|\s+as\s+(\w+)|(?=[\s;]|$))")
-HEAD = re.compile(r"^\s*(?:abbrev\s+|unfoldable\s+|pub\s+)+(record\s+)?(◌[^\s◌]+◌|[A-Za-z_][\w']*)")
+HEAD = re.compile(r"^\s*(?:abbrev\s+|unfoldable\s+|pub\s+)+(record\s+|data\s+)?(◌[^\s◌]+◌|[A-Za-z_][\w']*)")
 PRIVATE = re.compile(r"^([A-Za-z_][\w']*)\s*:")
 FUNCTION = re.compile(r"^\s*(pub(?:\(crate\))? )?(?:unsafe )?fn (\w+)")
 CLAUSE = re.compile(r"\b(?:ensures|requires)\b\s*(\w*)(.*?)(?=\b(?:ensures|requires)\b|\Z)", re.S)
