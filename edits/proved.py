@@ -7,6 +7,7 @@ import functools
 import os
 import re
 import shutil
+import signal
 import subprocess
 
 LINE = re.compile(r"^([a-z]\w*)( staticlib)?:(.*)$", re.M)
@@ -14,6 +15,18 @@ LINE = re.compile(r"^([a-z]\w*)( staticlib)?:(.*)$", re.M)
 
 class Unproved(Exception):
     """The crates can't be proved as they are, so nothing is known of any edit; the text is the end of what `rt ci` said."""
+
+
+def run_gate(room):
+    """Runs `rt ci` in a repository: its exit status, and what it says. Where this script is ended, so are all that it has started."""
+    gate = subprocess.Popen(["rt", "ci"], cwd=room, stdin=subprocess.DEVNULL, stdout=subprocess.PIPE, stderr=subprocess.STDOUT, text=True, errors="replace",
+                            start_new_session=True)
+    try:
+        said, _ = gate.communicate()
+    except BaseException:
+        os.killpg(gate.pid, signal.SIGTERM)
+        raise
+    return gate.returncode, said
 
 
 class Crates:
@@ -41,8 +54,16 @@ class Crates:
         """Copies what is read of a crate's folder: all but what was made in it."""
         shutil.copytree(os.path.join(self.top, "crates", crate), to, ignore=shutil.ignore_patterns("out"))
 
+    def proved_here(self, wanted):
+        """These crates, all that stand below some of which `make` has proved here."""
+        names = {name for it in wanted for name in self.below(it)}
+        missing = [name for name in self.names if name in names and subprocess.run([os.path.join(self.top, "tools", "is-proved"), name]).returncode]
+        if missing:
+            raise Unproved(f"not proved here: {', '.join(missing)} (make NAME)")
+        return self
+
     def prove(self, wanted, room):
-        """Has `rt ci` prove these crates and those below them in a new repository, `room`."""
+        """Has `rt ci` prove these crates and those below them in a new repository, `room`, and answers the crates there."""
         names = [name for name in self.names if any(name == it or name in self.below(it) for it in wanted)]
         # (what rt takes for the top of a repository, wherever the temporary folder lies)
         os.makedirs(os.path.join(room, ".git"))
@@ -52,9 +73,10 @@ class Crates:
             file.writelines(f"{name} {self.kinds[name]}".strip() + f": {' '.join(self.libraries[name])}\n" for name in names)
         if os.path.exists(os.path.join(self.top, "HANDLES")):
             shutil.copy(os.path.join(self.top, "HANDLES"), room)
-        ran = subprocess.run(["rt", "ci"], cwd=room, stdin=subprocess.DEVNULL, stdout=subprocess.PIPE, stderr=subprocess.STDOUT, text=True, errors="replace")
-        if ran.returncode:
-            raise Unproved("\n".join(ran.stdout.strip().split("\n")[-12:]))
+        status, said = run_gate(room)
+        if status:
+            raise Unproved("\n".join(said.strip().split("\n")[-12:]))
+        return Crates(room)
 
 
 @functools.lru_cache

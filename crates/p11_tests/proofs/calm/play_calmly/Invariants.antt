@@ -1,4 +1,0 @@
-use Rattle.p11_tests.proofs.calm.play_calmly.Given as goal
-
-abbrev pub ghosts-play_counted : goal.ghosts-play_counted
-ghosts-play_counted a = record { name = a.blank.name; parts = a.blank.parts }
