@@ -6,10 +6,15 @@ const { openFirefox } = require('./firefox.js');
 
 const isFirefox = (command) => command.includes('firefox');
 
-async function open(url, { downloads, home, command = process.env.CHROMIUM ?? 'chromium' }) {
-  const page = await (isFirefox(command) ? openFirefox : openChromium)(command, { downloads, home });
+// The browser, with an empty page.
+function launch({ downloads, home, command = process.env.CHROMIUM ?? 'chromium' }) {
+  return (isFirefox(command) ? openFirefox : openChromium)(command, { downloads, home });
+}
+
+async function open(url, options) {
+  const page = await launch(options);
   await page.goTo(url);
   return page;
 }
 
-module.exports = { open, isFirefox };
+module.exports = { open, launch, isFirefox };

@@ -6,7 +6,7 @@ const { Page } = require('./page.js');
 
 const SWITCHES = ['--headless=new', '--no-sandbox', '--disable-gpu', '--no-first-run', '--disable-dev-shm-usage'];
 const SIZE = [1280, 1000];
-const CODES = { Enter: 13, Backspace: 8, Tab: 9, End: 35, ArrowLeft: 37, ArrowUp: 38, ArrowDown: 40, F6: 117 };
+const CODES = { Enter: 13, Backspace: 8, Tab: 9, Escape: 27, End: 35, ArrowLeft: 37, ArrowUp: 38, ArrowRight: 39, ArrowDown: 40, F1: 112, F6: 117 };
 const EDITS = { c: 'copy', v: 'paste' };
 const EVENTS = { move: 'mouseMoved', down: 'mousePressed', up: 'mouseReleased' };
 

@@ -1,6 +1,6 @@
 // In the browser: holds the dialogues of the tests with the console of the module, as examples/c/dialogues.py does with the library for C.
-// How a row reads is said in crates/p11_talks/src/dialogues.rt. Left out: the dialogues in which memory or a store fails, which want an
-// allocator and a store of Rattle.
+// How a row reads is said in tests/rattle/p11_talks/src/dialogues.rt.txt. Left out: the dialogues in which memory or a store fails,
+// which want an allocator and a store of Rattle.
 'use strict';
 
 const KEYS = {

@@ -1,6 +1,6 @@
-// The dialogues of crates/p11_talks/data/dialogues.txt by the very module in the browser (dialogues-page.js): what is shown, said and
-// recorded, the history's lines, the requests and the status are those that are written there, which are those of ./terminal; and a machine
-// of its own comes by each record to the same registers and devices. With a prompt of another text a difference is seen.
+// The dialogues of tests/rattle/p11_talks by the very module in the browser (dialogues-page.js): what is shown, said and
+// recorded, the history's lines, the requests and the status are those that are written there, which are those of ./terminal; and a
+// machine of its own comes by each record to the same registers and devices. With a prompt of another text a difference is seen.
 'use strict';
 const assert = require('assert');
 

@@ -6,7 +6,10 @@ const { spawn } = require('child_process');
 const { Page } = require('./page.js');
 
 const SIZE = [1280, 1000];
-const CODES = { Enter: '\ue007', Backspace: '\ue003', Tab: '\ue004', End: '\ue010', ArrowLeft: '\ue012', ArrowUp: '\ue013', ArrowDown: '\ue015', F6: '\ue036' };
+const CODES = {
+  Enter: '\ue007', Backspace: '\ue003', Tab: '\ue004', Escape: '\ue00c', End: '\ue010', ArrowLeft: '\ue012', ArrowUp: '\ue013', ArrowRight: '\ue014',
+  ArrowDown: '\ue015', F1: '\ue031', F6: '\ue036',
+};
 const SHIFT = '\ue008', CONTROL = '\ue009';
 const EVENTS = { move: 'pointerMove', down: 'pointerDown', up: 'pointerUp' };
 

@@ -13,6 +13,8 @@ const { badFiles, trap, policy, lacking } = require('./bad.js');
 const { looks, names, keyboard, glass } = require('./looks.js');
 const { slow, tabs, list, full, earlier } = require('./tabs.js');
 const { presses } = require('./presses.js');
+const { lamps, steps, flags, switched, levers } = require('./front.js');
+const { drives, terminal, keyed, choices } = require('./shown.js');
 const { editing, asked, unanswered } = require('./editing.js');
 const { cases } = require('./cases.js');
 const { back, late, stopped, scripted, kills, torn } = require('./back.js');
@@ -25,7 +27,7 @@ const { plays, link, beside, pace, sizes, copies, single } = require('./ways.js'
 async function checked(command, { made, p11, examples, casesFile }) {
   const folder = fs.mkdtempSync(path.join(os.tmpdir(), 'p11-web-')), began = Date.now();
   const server = await serve({ '/': path.join(made, 'site'), '/examples/': examples, '/tests/': __dirname, '/data/': path.dirname(casesFile),
-    '/talks/': path.resolve(examples, '../crates/p11_talks/data') });
+    '/talks/': path.resolve(examples, '../tests/rattle/p11_talks/data') });
   const url = `http://127.0.0.1:${server.address().port}/`;
   const page = await open(url, { downloads: folder, command });
   const native = { p11: path.resolve(p11), folder };
@@ -39,6 +41,7 @@ async function checked(command, { made, p11, examples, casesFile }) {
   try {
     await run(plays, await run(evening));
     for (const next of [boots, editing, asked, unanswered, presses, kinds, badFiles, keyboard, names, looks, glass, pace, sizes, copies]) await run(next);
+    for (const next of [lamps, steps, flags, switched, levers, drives, terminal, keyed, choices]) await run(next);
     for (const next of [link, beside, slow, tabs, list, full, earlier, policy, lacking]) await run(next);
     for (const next of [packed, back, late, stopped, scripted, kills, torn, cuts, random, dialogues]) await run(next);
     const told = await run(cases);

@@ -1,4 +1,4 @@
-// The calls of p11.wasm for JavaScript: the console of examples/c/p11.h, with the same statuses and numbers.
+// The calls of p11.wasm for JavaScript: the console of examples/c/pdp1140.h, with the same statuses and numbers.
 //   const dialogue = new Dialogue(exports, { kwords: 28 }); dialogue.keys(bytesOf('regs\r')); dialogue.step(1000); dialogue.screen();
 // It works in a page, in a worker and in node. Nothing in here knows what a PDP-11 is.
 'use strict';

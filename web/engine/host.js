@@ -74,6 +74,9 @@ class Host {
 
   type(text) { this.keys(bytesOf(text)); }
 
+  // Whether a talk is under way, or typed and not begun yet.
+  get talks() { return /(^|\r)talk\r/.test(textOf(Uint8Array.from(this.queue))) || (this.isTalk && (this.isRunning || this.want === WANT.step)); }
+
   // Keys are given a line at a time, so that it is known whether any wait; in a run all up to one that may end it.
   giveKeys() {
     if (this.queue.length === 0 || !(this.isRunning || this.want === WANT.keys)) return;
@@ -81,6 +84,8 @@ class Host {
     if (this.waiting > 0 && urgent < 0) return;
     const end = urgent < 0 ? this.queue.slice(0, MOST_KEYS).findIndex((key) => key === 10 || key === 13) : urgent;
     const given = this.queue.splice(0, end < 0 ? MOST_KEYS : end + 1);
+    const text = textOf(Uint8Array.from(given));
+    if (!this.isRunning && text.endsWith('\r')) this.isTalk = isTalk(text);
     this.waiting += given.length;
     this.console.keys(Uint8Array.from(given));
   }

@@ -203,7 +203,7 @@ class Engine {
   say(lines, isSilent) {
     return new Promise((done) => {
       const begin = () => {
-        const { host } = this, goesOn = host.isRunning && host.isTalk;
+        const { host } = this, goesOn = host.talks;
         this.isMuted = isSilent && (goesOn || host.isAtPrompt);
         this.saying = { left: [...lines], done, goesOn, text: '', told: null };
         if (goesOn) host.keys([ESCAPE]);
