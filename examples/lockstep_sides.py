@@ -20,6 +20,8 @@ import tempfile
 import tty
 
 PYTHON = os.path.join(os.path.dirname(os.path.realpath(__file__)), "..", "python")
+# Seconds in which a command answers a line, and turns that it may make in a second besides.
+PATIENCE, PACE = 10, 1000
 SET = ("r0", "r1", "r2", "r3", "r4", "r5", "ksp", "usp", "pc", "ps")
 INPUT_OUTPUT_PAGE = 0o760000
 NAMES = ["R0", "R1", "R2", "R3", "R4", "R5", "KSP", "USP", "PC", "PSW"]
@@ -117,16 +119,30 @@ class Command:
         self.begin()
 
     def begin(self):
-        self.process = subprocess.Popen(self.command, stdin=subprocess.PIPE, stdout=subprocess.PIPE, text=True, bufsize=1)
-        self.is_fresh = True
+        self.process = subprocess.Popen(self.command, stdin=subprocess.PIPE, stdout=subprocess.PIPE)
+        self.is_fresh, self.said = True, b""
 
-    def ask(self, line):
+    def line(self, asked, seconds):
+        """The line that is answered; the command is ended if there is none in time."""
+        while b"\n" not in self.said:
+            if not select.select([self.process.stdout], [], [], seconds)[0]:
+                self.process.kill()
+                raise ValueError(f"{self.name} answers nothing in {seconds:.0f} seconds to: {asked[:60]}")
+            more = os.read(self.process.stdout.fileno(), 65536)
+            if not more:
+                break
+            self.said += more
+        line, _, self.said = self.said.partition(b"\n")
+        return line.decode("latin-1")
+
+    def ask(self, line, turns=0):
+        """What is answered to a line that makes so many turns."""
         try:
-            self.process.stdin.write(line + "\n")
+            self.process.stdin.write(line.encode() + b"\n")
             self.process.stdin.flush()
         except BrokenPipeError:
             raise ValueError(f"{self.name} has ended before: {line[:60]}") from None
-        answer = self.process.stdout.readline().split()
+        answer = self.line(line, PATIENCE + turns / PACE).split()
         if not answer:
             raise ValueError(f"{self.name} answers nothing to: {line[:60]}")
         if answer[0] == "?":
@@ -174,11 +190,11 @@ class Command:
         return tuple(int(word, 8) for word in answer[:10]), answer[10]
 
     def step(self, turns):
-        return self.state_of(self.ask(f"step {turns}"))
+        return self.state_of(self.ask(f"step {turns}", turns))
 
     def until(self, address):
         try:
-            return self.state_of(self.ask(f"until {address:o}")) if self.has_until else until(self, address)
+            return self.state_of(self.ask(f"until {address:o}", MOST)) if self.has_until else until(self, address)
         except NoSuchLine:
             self.has_until = False
             return until(self, address)
@@ -188,7 +204,11 @@ class Command:
             self.process.stdin.close()
         except BrokenPipeError:
             pass
-        self.process.wait()
+        try:
+            self.process.wait(PATIENCE)
+        except subprocess.TimeoutExpired:
+            self.process.kill()
+            self.process.wait()
 
 
 class Simh:

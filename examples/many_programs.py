@@ -24,7 +24,7 @@ PLAY = """#!/bin/sh
 cd "$1" || exit 1
 rm -rf files && { cp -al inputs files 2>/dev/null || { rm -rf files && cp -a inputs files; }; } || exit 1
 began=$(date +%s%N)
-(cd files && exec ../p11 OPTIONS ../script) >answers 2>errors </dev/null
+(cd files && exec LIMIT ../p11 OPTIONS ../script) >answers 2>errors </dev/null
 echo $? >status
 ended=$(date +%s%N)
 echo $(((ended - began) / 1000000)) | sed 's/^/000/; s/\\(...\\)$/.\\1/; s/^00*\\([0-9]\\)/\\1/' >seconds
@@ -32,6 +32,16 @@ echo $(((ended - began) / 1000000)) | sed 's/^/000/; s/\\(...\\)$/.\\1/; s/^00*\
 find files -depth -type d -empty -delete
 [ -s errors ] || rm -f errors
 mkdir -p ../.played && : >"../.played/$1"
+"""
+# Runs a command, and ends it where this process ends in whatever way: from then on nobody holds the other end of the pipe WATCHED. Of two
+# signals the first lets what is played come to its end, and the second doesn't; what is left then is killed.
+GROUP = """
+"$@" <&0 WATCHED<&- & playing=$!
+(read -r _; kill -TERM "$playing"; kill -TERM "$playing"; sleep 5; kill -KILL 0) <&WATCHED >/dev/null 2>&1 & watching=$!
+wait "$playing"
+status=$?
+kill -KILL "$watching"
+exit "$status"
 """
 SLURM = """#!/bin/sh
 #SBATCH --job-name=p11-many
@@ -112,15 +122,22 @@ def lay_out(work, script):
     return True
 
 
-def prepare(work, scripts, rest):
-    """Lays out the scripts that aren't played yet, to be played with these options of p11: those that can be."""
+def version():
+    """What the program p11 says of itself, on one line."""
+    return subprocess.run([find_program(), "--version"], stdout=subprocess.PIPE, text=True, check=True).stdout.splitlines()[0]
+
+
+def prepare(work, scripts, rest, seconds):
+    """Lays out the scripts that aren't played yet, to be played with these options of p11, each for so many seconds at most (None: as
+    long as it takes): those that can be."""
     os.makedirs(os.path.join(work.results, ".played"), exist_ok=True)
     for name in (".p11", ".play"):
         if os.path.exists(os.path.join(work.results, name)):
             os.unlink(os.path.join(work.results, name))
     shutil.copy(find_program(), os.path.join(work.results, ".p11"))
     with open(os.path.join(work.results, ".play"), "w") as file:
-        file.write(PLAY.replace("OPTIONS", shlex.join(options_of(work, rest))))
+        limit = f"timeout -k 5 {seconds}" if seconds else ""
+        file.write(PLAY.replace("OPTIONS", shlex.join(options_of(work, rest))).replace("LIMIT ", limit and limit + " "))
     return [script for script in scripts if not is_played(work, script) and lay_out(work, script)]
 
 
@@ -173,15 +190,16 @@ def parallel(work, left, jobs, hosts, ssh):
         for host in answering(hosts, ssh):
             words += ["--sshlogin", host]
     names = "".join(script.name + "\0" for script in left)
-    playing = subprocess.Popen([*words, "sh {}/play {}"], stdin=subprocess.PIPE, text=True, cwd=work.results)
+    watched, held = os.pipe()
+    group = GROUP.replace("WATCHED", str(watched))
+    playing = subprocess.Popen(["bash", "-c", group, "play", *words, "sh {}/play {}"], stdin=subprocess.PIPE, text=True, cwd=work.results,
+                               pass_fds=[watched], preexec_fn=os.setpgrp)
+    os.close(watched)
     try:
         playing.communicate(names)
-    except KeyboardInterrupt:
-        # the first lets what is played come to its end, and the second doesn't
-        for _ in range(2):
-            playing.terminate()
+    finally:
+        os.close(held)
         playing.wait()
-        raise
 
 
 def play(work, left, jobs, hosts):

@@ -4,6 +4,8 @@ import os
 import sys
 
 SHOWN = 20
+# The status of a script that was ended, since it took longer than it might (timeout(1)).
+LATE = 124
 # The file of the results that names the scripts in which a line was refused.
 REFUSED = "refused.txt"
 
@@ -99,6 +101,8 @@ class Work:
     def fault_of_answers(self, script, status, errors, answers):
         """Why a script that was played has failed, if it has."""
         wanted = self.wanted(script)
+        if status == LATE:
+            return "took longer than --seconds, and was ended"
         if status:
             return f"ended with status {status}" + (f": {errors.strip()}" if errors.strip() else "")
         if os.path.exists(wanted) and read(wanted) != answers:

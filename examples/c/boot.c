@@ -4,7 +4,7 @@
 #include <stdlib.h>
 #include <string.h>
 
-#include "p11.h"
+#include "pdp1140.h"
 #include "p11_version.h"
 
 static struct p11_handle machine; /* all bytes 0: it holds no machine yet */

@@ -6,7 +6,7 @@
 #include <string.h>
 #include <unistd.h>
 
-#include "p11.h"
+#include "pdp1140.h"
 
 static struct p11_console console;
 static uint8_t bytes[16 << 20], name[4096];

@@ -1,8 +1,8 @@
-"""dialogues.py LIBRARY: holds the dialogues of crates/p11_talks/data/dialogues.txt by the class Console of python/p11, and compares
+"""dialogues.py LIBRARY: holds the dialogues of tests/rattle/p11_talks by the class Console of python/p11, and compares
 what is shown, said and recorded, the history's lines, the requests and the status with what is written there. Then a machine of
 its own does the lines of the record, and comes to the registers and devices that the console tells.
 
-How a row reads is said in crates/p11_talks/src/dialogues.rt. Left out: the dialogues in which memory or a store fails, which
+How a row reads is said in tests/rattle/p11_talks/src/dialogues.rt.txt. Left out: the dialogues in which memory or a store fails, which
 want an allocator and a store of Rattle. Exit status 1: a dialogue comes to something else; its first difference is printed.
 """
 import ctypes
@@ -16,7 +16,7 @@ sys.path.append(os.path.join(TOP, "python"))
 os.environ["P11_LIBRARY"] = sys.argv[1]
 from p11 import Machine, console as p11  # noqa: E402 (the path is set first)
 
-DATA = os.path.join(TOP, "crates/p11_talks/data/dialogues.txt")
+DATA = os.path.join(TOP, "tests/rattle/p11_talks/data/dialogues.txt")
 KEYS = {
     "Up": b"\033[A", "Down": b"\033[B", "Right": b"\033[C", "Left": b"\033[D", "Home": b"\033[H", "End": b"\033[F",
     "Delete": b"\033[3~", "Backspace": b"\177", "Tab": b"\t", "Return": b"\r", "Esc": b"\033", "Brace": b"{",

@@ -6,7 +6,7 @@
 #include <string.h>
 #include <sys/resource.h>
 
-#include "p11.h"
+#include "pdp1140.h"
 
 enum { PACK = 2494464 };
 

@@ -4,7 +4,7 @@
 #include <stdlib.h>
 #include <string.h>
 
-#include "p11.h"
+#include "pdp1140.h"
 
 static const char *const lines[] = {"load tape", "set 6 1000", "start 1000", "continue 10000", "regs",
                                     "mount 0 blank rw", "save 0 pack"};

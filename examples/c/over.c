@@ -11,7 +11,7 @@
 #include <string.h>
 #include <sys/mman.h>
 
-#include "p11.h"
+#include "pdp1140.h"
 
 typedef int32_t call(uint32_t, uint32_t, const uint8_t *, size_t, const uint8_t *, size_t, uint8_t *, size_t, size_t *,
                      uint8_t *, size_t, size_t *);

@@ -5,7 +5,7 @@
 #include <stdlib.h>
 #include <string.h>
 
-#include "p11.h"
+#include "pdp1140.h"
 
 static long left_to_grant = -1; /* below 0: all are granted */
 static int refuses_on, was_refused;

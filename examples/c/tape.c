@@ -3,7 +3,7 @@
 #include <stdlib.h>
 #include <string.h>
 
-#include "p11.h"
+#include "pdp1140.h"
 
 static const char script[] = "load tape\nset 6 1000\nstart 1000\ncontinue 10000\nregs\nmount 0 blank rw\nsave 0 pack\n";
 static uint8_t files[65536], answers[65536], typed[4096], left[4 << 20];

@@ -1,4 +1,4 @@
-"""The library for C (p11.h): where it is, its calls as ctypes has them, and how they fail."""
+"""The library for C (pdp1140.h): where it is, its calls as ctypes has them, and how they fail."""
 import ctypes
 import functools
 import glob
@@ -7,7 +7,7 @@ import subprocess
 from ctypes import c_char_p, c_int32, c_size_t, c_uint16, c_uint32, c_uint64, c_void_p
 
 HERE = os.path.dirname(os.path.realpath(__file__))
-DONE, TOO_SMALL, NO_FILE = 0, 4, 7
+DONE, BAD_SIZE, TOO_SMALL, NO_FILE, TOO_MANY = 0, 2, 4, 7, 8
 STATUSES = {
     1: "there is no memory for it",
     2: "no machine has these sizes: 4 to 124 thousand words in steps of 4, and 0 to 4096 decoded instructions",
@@ -20,11 +20,34 @@ STATUSES = {
 
 
 class Failed(RuntimeError):
-    """What the library can't do, with the `number` of its status (p11.h)."""
+    """What the library can't do, with the `number` of its status (pdp1140.h)."""
 
     def __init__(self, number: int, text: str = ""):
         super().__init__(text or STATUSES.get(number, f"the library answers status {number}"))
         self.number = number
+
+
+class OutOfRange(Failed, ValueError):
+    """A number that no call takes: a size that no machine has, or turns that no run has."""
+
+
+class InUse(RuntimeError):
+    """A call for a machine or a console that another thread uses at the same time."""
+
+    def __init__(self) -> None:
+        super().__init__("another thread uses it now; a machine or a console belongs to one thread at a time")
+
+
+def status_failed(status: int) -> Failed:
+    """The exception for a status that isn't P11_DONE."""
+    return OutOfRange(status) if status in (BAD_SIZE, TOO_MANY) else Failed(status)
+
+
+def whole(number: int, status: int) -> int:
+    """A number that an argument of 32 bits takes; one that it doesn't take is out of range, with this status."""
+    if not 0 <= number < 1 << 32:
+        raise OutOfRange(status)
+    return number
 
 
 class Handle(ctypes.Structure):
@@ -50,6 +73,7 @@ CALLS = {
     "p11_new": (c_uint32, c_uint32, *BYTES, HANDLE),
     "p11_line": (HANDLE, *BYTES),
     "p11_run": (HANDLE, c_uint32, c_uint32, TOLD),
+    "p11_steps_until": (HANDLE, c_char_p, c_size_t, c_uint32, TOLD),
     "p11_put_file": (HANDLE, *BYTES, *BYTES),
     "p11_file": (HANDLE, *BYTES, *ROOM),
     "p11_forget": (HANDLE, *BYTES),
@@ -64,7 +88,7 @@ CALLS = {
 def find() -> str:
     """The shared object: what P11_LIBRARY names, the one that lies beside this module, the installed one, or the clone's, which is
     built where it isn't."""
-    named, own = os.environ.get("P11_LIBRARY"), os.path.join(HERE, "libp11.so")
+    named, own = os.environ.get("P11_LIBRARY"), os.path.join(HERE, "libpdp1140.so")
     if named:
         return os.path.abspath(named)
     if os.path.exists(own):
@@ -75,14 +99,14 @@ def find() -> str:
         built = subprocess.run([build, "p11_c"], stdout=subprocess.PIPE, text=True)
         if built.returncode:
             raise OSError(f"{build} can't build the library")
-        return os.path.join(os.path.dirname(built.stdout.strip()), "libp11.so")
+        return os.path.join(os.path.dirname(built.stdout.strip()), "libpdp1140.so")
     # an installation has this module in PREFIX/libexec/p11/python/p11 and in PREFIX/share/doc/p11/python/p11
     folders = [os.path.realpath(os.path.join(top, above, "lib")) for above in ("../..", "../../..")]
     for folder in folders:
-        found = glob.glob(os.path.join(folder, "p11", "libp11.so")) + glob.glob(os.path.join(folder, "*", "p11", "libp11.so"))
+        found = glob.glob(os.path.join(folder, "p11", "libpdp1140.so")) + glob.glob(os.path.join(folder, "*", "p11", "libpdp1140.so"))
         if found:
             return found[0]
-    raise OSError(f"there is no {own}, and no p11/libp11.so below {' or '.join(folders)}: P11_LIBRARY names the library")
+    raise OSError(f"there is no {own}, and no p11/libpdp1140.so below {' or '.join(folders)}: P11_LIBRARY names the library")
 
 
 @functools.lru_cache(maxsize=None)
@@ -110,4 +134,5 @@ def load() -> ctypes.CDLL:
 
 def version() -> str:
     """Which library this is: its version, whether it's proved, its sources' sum, the toolchain's kit."""
-    return load().p11_version().decode()
+    said: bytes = load().p11_version()
+    return said.decode()

@@ -1,4 +1,4 @@
-//! Says where libp11.a is: in the folder that P11_LIB names; or where `build p11_c` of the clone leaves it; or in the library
+//! Says where libpdp1140.a is: in the folder that P11_LIB names; or where `build p11_c` of the clone leaves it; or in the library
 //! folder of the installation that has this crate.
 use std::{env, path::{Path, PathBuf}, process::Command};
 
@@ -16,16 +16,16 @@ fn of_the_clone(here: &Path) -> Option<PathBuf> {
 fn installed(here: &Path) -> Option<PathBuf> {
     let folder = here.join("../../../../../../lib");
     let below = folder.read_dir().into_iter().flatten().flatten().map(|entry| entry.path());
-    std::iter::once(folder.clone()).chain(below).find(|place| place.join("libp11.a").exists())
+    std::iter::once(folder.clone()).chain(below).find(|place| place.join("libpdp1140.a").exists())
 }
 
 fn main() {
     println!("cargo::rerun-if-env-changed=P11_LIB");
     let here = PathBuf::from(env::var("CARGO_MANIFEST_DIR").unwrap());
     let folder = env::var("P11_LIB").ok().map(PathBuf::from).or_else(|| of_the_clone(&here)).or_else(|| installed(&here));
-    let Some(folder) = folder.filter(|place| place.join("libp11.a").exists()) else {
-        panic!("there is no libp11.a here: P11_LIB names its folder");
+    let Some(folder) = folder.filter(|place| place.join("libpdp1140.a").exists()) else {
+        panic!("there is no libpdp1140.a here: P11_LIB names its folder");
     };
     println!("cargo::rustc-link-search=native={}", folder.display());
-    println!("cargo::rustc-link-lib=static=p11");
+    println!("cargo::rustc-link-lib=static=pdp1140");
 }

@@ -1,4 +1,4 @@
-//! The calls of `p11.h`, which says what each argument is, who owns it and what comes at an error.
+//! The calls of `pdp1140.h` and `p11_more.h`, which say what each argument is, who owns it and what comes at an error.
 #![no_std]
 #![allow(non_camel_case_types)]
 use core::ffi::{c_char, c_void};
@@ -12,15 +12,38 @@ pub const P11_TOO_LONG: i32 = 5;
 pub const P11_NO_MACHINE: i32 = 6;
 pub const P11_NO_FILE: i32 = 7;
 pub const P11_TOO_MANY: i32 = 8;
+pub const P11_NO_WORDS: i32 = 9;
 
 pub const P11_HALT: u16 = 0;
 pub const P11_TURNS: u16 = 1;
 pub const P11_IDLE: u16 = 2;
 pub const P11_MEMORY: u16 = 3;
+pub const P11_AT: u16 = 4;
 
 pub const P11_READY: u16 = 0;
 pub const P11_WAITING: u16 = 1;
 pub const P11_HALTED: u16 = 2;
+
+pub const P11_TYPED: u32 = 0;
+pub const P11_GIVEN: u32 = 1;
+pub const P11_BATCH: u32 = 2;
+pub const P11_WANTS_STEP: u32 = 0;
+pub const P11_WANTS_KEYS: u32 = 1;
+pub const P11_WANTS_IDLE: u32 = 2;
+pub const P11_WANTS_MEMORY: u32 = 3;
+pub const P11_WANTS_FETCH: u32 = 4;
+pub const P11_WANTS_PUT: u32 = 5;
+pub const P11_WANTS_NAMES: u32 = 6;
+pub const P11_WANTS_END: u32 = 7;
+pub const P11_FILE_WRITTEN: u32 = 0;
+pub const P11_FILE_THERE: u32 = 1;
+pub const P11_FILE_MISSING: u32 = 2;
+pub const P11_FILE_DENIED: u32 = 3;
+pub const P11_FILE_FOLDER: u32 = 4;
+pub const P11_FILE_PATH: u32 = 5;
+pub const P11_FILE_LONG: u32 = 6;
+pub const P11_FILE_MEMORY: u32 = 7;
+pub const P11_FILE_FAULT: u32 = 8;
 
 /// A machine or none. It begins as `p11_handle::NONE`, and no copy of it is used.
 #[repr(C)]
@@ -32,6 +55,18 @@ pub struct p11_handle {
 
 impl p11_handle {
     pub const NONE: p11_handle = p11_handle { at: core::ptr::null_mut(), machines: 0 };
+}
+
+/// A console or none. It begins as `p11_console::NONE`, and no copy of it is used.
+#[repr(C)]
+#[derive(Debug)]
+pub struct p11_console {
+    at: *mut c_void,
+    consoles: u32,
+}
+
+impl p11_console {
+    pub const NONE: p11_console = p11_console { at: core::ptr::null_mut(), consoles: 0 };
 }
 
 /// What a run came to.
@@ -58,8 +93,8 @@ pub struct p11_registers {
     pub mark: u16,
 }
 
-// the sizes that p11.h gives them
-const _: () = assert!(size_of::<p11_handle>() == 16 && size_of::<p11_run_told>() == 8 && size_of::<p11_registers>() == 40);
+// the sizes that pdp1140.h gives them
+const _: () = assert!(size_of::<p11_console>() == 16 && size_of::<p11_handle>() == 16 && size_of::<p11_run_told>() == 8 && size_of::<p11_registers>() == 40);
 
 extern "C" {
     pub fn p11_session(
@@ -89,6 +124,44 @@ extern "C" {
     pub fn p11_keys_waiting(handle: *mut p11_handle, keys: *mut u32) -> i32;
     pub fn p11_files(handle: *mut p11_handle, files_out: *mut u8, files_capacity: usize, files_length: *mut usize) -> i32;
     pub fn p11_drop(handle: *mut p11_handle);
+    pub fn p11_console_new(
+        kwords: u32, lines: u32, manner: u32, strict: u32, saveless: u32, talk: u32, console: *mut p11_console,
+    ) -> i32;
+    pub fn p11_console_open(console: *mut p11_console, name: *const u8, length: usize) -> i32;
+    pub fn p11_console_remember(console: *mut p11_console, line: *const u8, length: usize) -> i32;
+    pub fn p11_console_keys(console: *mut p11_console, bytes: *const u8, length: usize) -> i32;
+    pub fn p11_console_closed(console: *mut p11_console) -> i32;
+    pub fn p11_console_paused(console: *mut p11_console) -> i32;
+    pub fn p11_console_ticked(console: *mut p11_console) -> i32;
+    pub fn p11_console_resized(console: *mut p11_console, columns: usize) -> i32;
+    pub fn p11_console_redrawn(console: *mut p11_console) -> i32;
+    pub fn p11_console_step(console: *mut p11_console, turns: u32, want: *mut u32) -> i32;
+    pub fn p11_console_screen(console: *mut p11_console, bytes: *mut u8, capacity: usize, length: *mut usize) -> i32;
+    pub fn p11_console_record(console: *mut p11_console, bytes: *mut u8, capacity: usize, length: *mut usize) -> i32;
+    pub fn p11_console_past(console: *mut p11_console, bytes: *mut u8, capacity: usize, length: *mut usize) -> i32;
+    pub fn p11_console_shown(console: *mut p11_console, count: usize) -> i32;
+    pub fn p11_console_recorded(console: *mut p11_console, count: usize) -> i32;
+    pub fn p11_console_kept(console: *mut p11_console, count: usize) -> i32;
+    pub fn p11_console_errors(console: *mut p11_console, bytes: *mut u8, capacity: usize, length: *mut usize) -> i32;
+    pub fn p11_console_told(console: *mut p11_console) -> i32;
+    pub fn p11_console_name(console: *mut p11_console, bytes: *mut u8, capacity: usize, length: *mut usize) -> i32;
+    pub fn p11_console_image(console: *mut p11_console, bytes: *mut u8, capacity: usize, length: *mut usize) -> i32;
+    pub fn p11_console_request(console: *mut p11_console, replace: *mut u32, pack: *mut u32) -> i32;
+    pub fn p11_console_fetched(console: *mut p11_console, bytes: *const u8, length: usize) -> i32;
+    pub fn p11_console_missed(console: *mut p11_console, trouble: u32) -> i32;
+    pub fn p11_console_put(console: *mut p11_console, trouble: u32) -> i32;
+    pub fn p11_console_front(console: *mut p11_console, bytes: *mut u8, capacity: usize, length: *mut usize) -> i32;
+    pub fn p11_console_names(console: *mut p11_console, names: *const u8, length: usize) -> i32;
+    pub fn p11_console_status(console: *mut p11_console, status: *mut u32) -> i32;
+    pub fn p11_console_regs(console: *mut p11_console, regs: *mut p11_registers) -> i32;
+    pub fn p11_console_devices(console: *mut p11_console, text: *mut u8, text_capacity: usize, text_length: *mut usize) -> i32;
+    pub fn p11_console_drop(console: *mut p11_console);
+    /// `p11_more.h`, as the two calls behind it.
+    pub fn p11_steps_until(
+        handle: *mut p11_handle, addresses: *const u16, count: usize, most: u32, run: *mut p11_run_told,
+    ) -> i32;
+    pub fn p11_words(handle: *mut p11_handle, address: u32, words: *mut u16, count: usize, done: *mut usize) -> i32;
+    pub fn p11_put_words(handle: *mut p11_handle, address: u32, words: *const u16, count: usize, done: *mut usize) -> i32;
     /// `p11_version.h`
     pub fn p11_version() -> *const c_char;
 }
