@@ -3,8 +3,8 @@
 # make install    puts them, the library for C, the manual pages and the examples below PREFIX (/usr/local), or below DESTDIR
 #                 and then PREFIX; what isn't proved is proved first
 # make uninstall  takes away just that
-# make dist       makes in dist/ what a release has, of what is proved and what the gate passed on (tools/dist/make); KEY=FILE signs
-#                 it with a key of ssh-keygen's
+# make dist       makes in dist/ what a release has, of what is proved and what the gate passed on (tools/dist/make), and renews
+#                 release/, which the repository carries of it (tools/dist/keep); KEY=FILE signs both with a key of ssh-keygen's
 # make NAME       proves and builds the crate NAME, and before it what it stands on
 #
 # Which crate stands on which is read off crates.txt, whose lines are rules of make. Crates that don't stand on each other
@@ -24,6 +24,7 @@ uninstall:
 
 dist:
 	@tools/dist/make
+	@tools/dist/keep
 
 include crates.txt
 
