@@ -6,5 +6,5 @@ import sys
 EXAMPLES = os.path.join(os.path.dirname(os.path.abspath(__file__)), "..")
 MODEL = os.path.join(EXAMPLES, "..", "model")
 if not os.path.isdir(os.path.join(MODEL, "pdp11")):
-    raise SystemExit("cases: the model of the machine isn't there: the folder model of the sources lies beside examples")
+    raise SystemExit(f"{os.path.basename(sys.argv[0])}: the model of the machine isn't there: the folder model of the sources lies beside examples")
 sys.path += [MODEL, EXAMPLES]
