@@ -57,20 +57,41 @@ WANTED = [
 ]
 
 
+# names, and for each what is listed besides: by titles, with what stands below
+OTHERS = {
+    "set_codes_for": {"contracts that name it, or the nearest definitions above it": ": Hardware::modify_operands",
+                      "functions of its name": ": Hardware::set_codes_for"},
+    "DriveBusy": {"declaration": ": DriveBusy = 7,", "definitions that name it": ": outcome", "the code": "src/disk.rt:",
+                  "the model": "panel.py:", "sessions": "sessions/drives.txt:", "mutation tests": "busy-before-empty.edit:"},
+    "turn_of": {"the model: 1": ": def turn(self):"},
+}
+
+
+def where(*words):
+    return subprocess.run([os.path.join(HERE, "where"), *words], capture_output=True, text=True)
+
+
+def lacking_of(name, sessions):
+    """What isn't listed of a name in the part that a title begins."""
+    parts = where(name, "--sessions", sessions).stdout.split("\n\n")
+    for title, wanted in OTHERS[name].items():
+        if not any(part.strip().startswith(title) and wanted in part for part in parts):
+            yield f"of {name} it doesn't list, below '{title}': {wanted}"
+
+
 def main():
     with tempfile.NamedTemporaryFile("w", suffix=".txt") as file:
         file.write(SESSIONS)
         file.flush()
-        command = [os.path.join(HERE, "where"), "Starts.arrival", "--sessions", file.name]
-        done = subprocess.run(command, stdout=subprocess.PIPE, text=True)
-    lacking = [line for line in WANTED if line not in done.stdout]
-    wrong = [f"it doesn't list: {line}" for line in lacking]
+        done = where("Starts.arrival", "--sessions", file.name)
+        wrong = [fault for name in OTHERS for fault in lacking_of(name, file.name)]
+    wrong += [f"it doesn't list: {line}" for line in WANTED if line not in done.stdout]
     wrong += [f"its exit status is {done.returncode}"] if done.returncode else []
-    refused = subprocess.run([os.path.join(HERE, "where"), "seek"], stderr=subprocess.PIPE, text=True)
+    refused = where("seek")
     wrong += ["a name that is none isn't refused, with those that are like it"] if refused.returncode != 1 or "seek_turn" not in refused.stderr else []
     for line in wrong:
         print(f"docs/where_test.py: {line}")
-    print(f"docs/where_test.py: {len(WANTED)} places of a turn more for a seek, {len(wrong)} faults")
+    print(f"docs/where_test.py: {len(WANTED)} places of a turn more for a seek, {len(OTHERS)} other names, {len(wrong)} faults")
     return 1 if wrong else 0
 
 

@@ -38,7 +38,7 @@ RIGHT = [
     ("macro", ".IRP X,<R1,R2>\nINC X\n.ENDM", "5201 5202"),
 ]
 
-# a syntax, lines, and the first of what is told
+# a syntax, lines, and what is told
 WRONG = [
     ("gnu", "        mvo $1, r0", "w:1:9: there is no instruction mvo"),
     ("gnu", "nop\n\tmov nowhere, r1", "w:2:6: nowhere isn't defined"),
@@ -46,6 +46,7 @@ WRONG = [
     ("gnu", "br x\n. = . + 256\nx: nop", "w:1:4: the branch is 128 words long, and may be -128 to 127"),
     ("gnu", "sob r1, 1f\nnop\n1: nop", "w:1:9: the branch is 1 words long, and may be -63 to 0"),
     ("gnu", "nop; br 2f", "w:1:9: there is no label 2f"),
+    ("gnu", "br nowhere", "w:1:4: nowhere isn't defined"),
     ("gnu", "x: nop\n. = x - 2", "w:2:1: the location would go back, from 1002 to 776"),
     ("gnu", ".byte 256", "w:1:7: 256 doesn't fit: it may be -128 to 255"),
     ("gnu", "mov $1 r0", "w:1:8: , is missing"),
@@ -58,11 +59,17 @@ WRONG = [
     ("gnu", ".macro m\nmvo\n.endm\nnop\nm", "w:5:1: there is no instruction mvo (in the macro m)"),
     ("gnu", ".macro m\nnop", "w:1:1: the macro m has no end"),
     ("gnu", ".if 1\nnop", "w:2:1: a condition has no end"),
-    ("gnu", "mov (r0, r1", "w:1:6: r0 isn't defined"),
+    ("gnu", "mov (r0, r1", "w:1:6: r0 isn't defined\nw:1:8: ) is missing"),
     ("macro", "MOV #19,R0", "w:1:6: 19 has a digit that its radix hasn't got"),
     ("macro", "MOV #1,R0,", "w:1:10: this is too much: ,"),
     ("macro", ".WORD 1/0", "w:1:8: a division by zero, or a shift by less than 0"),
     ("macro", ".ASCII /AB", "w:1:8: the text has no second /"),
     ("macro", "RTS 5", "w:1:5: a register is missing"),
+    ("macro", "INK SECS\nSECS: 0", "w:1:1: there is no instruction INK"),
+    ("macro", "INK -(R1)", "w:1:1: there is no instruction INK"),
+    ("macro", "INK -1", "w:1:1: INK isn't defined"),
+    ("macro", "MOV #400000,R0", "w:1:6: 400000 doesn't fit: it may be -100000 to 177777"),
+    ("macro", "BR X\n.=.+400\nX: NOP", "w:1:4: the branch is 200 words long, and may be -200 to 177"),
+    ("macro", ".RADIX 10\nEMT 256", "w:2:5: 256. doesn't fit: it may be 0. to 255."),
     ("macro", ".MACRO M\nM\n.ENDM\nM", "w:4:1: the macro M calls itself, 100 times over (in the macro M)"),
 ]

@@ -43,6 +43,10 @@ CRASHES = [
     ("a stack that was never set", "", "JSR PC,A\nHALT\nA: INC R0\nRTS PC", RUN,
      ["HALT at 000000", "RTS PC at 001010 went to 000000", "the word at 177776 (the status word), which it took as the address:",
       "no instruction wrote it, so the machine itself did, while INC R0 was at 001006"]),
+    ("a vector that sends each trap to the next one", "set 6 1000\n", "MOV #160000,@#4\nNOP\nTST @#160000\nHALT", "continue 30000\n",
+     ["It didn't stop: the last run made its 30000 turns, and PC is 160000.", "Nothing but traps came from turn 3 on.",
+      "the fetch of an instruction at 160000 reads 160000", "Turn 1 was the last to change vector 4, which was 160000 000000: "
+      "MOV #160000,@#4 at 001000 wrote 160000 there."]),
     ("a wait for nothing", "set 6 1000\n", "MOV #340,@#177776\nWAIT\nHALT", RUN,
      ["It idles: it waits behind WAIT at 001006", "No device has its interrupt enabled.", "The processor's priority is 7."]),
     ("a trap instruction without a handler", "set 6 1000\n", "EMT 17", RUN,

@@ -72,6 +72,10 @@ class Gnu(Dialect):
     def worked_out(self, value):
         return value
 
+    def shown(self, value):
+        """A number as faults tell it."""
+        return str(value)
+
     def numbered(self, text):
         if text[:2].lower() in ("0x", "0b"):
             return int(text, 0)
@@ -107,6 +111,10 @@ class Macro11(Dialect):
     def worked_out(self, value):
         """A value as the 16 bits that it is worked out in, with a sign."""
         return (value + 0o100000 & 0o177777) - 0o100000
+
+    def shown(self, value):
+        """A number as faults tell it: octal, or decimal with its point in a source of another radix."""
+        return f"{value:o}" if self.radix == 8 else f"{value}."
 
     def numbered(self, text):
         return int(text[:-1]) if text.endswith(".") else int(text, self.radix)

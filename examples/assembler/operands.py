@@ -16,7 +16,7 @@ class Encoder:
 
     def __init__(self, dialect, expressions, symbols, note):
         self.dialect, self.expressions, self.symbols, self.note = dialect, expressions, symbols, note
-        self.registers = dict(dialect.registers)
+        self.registers, self.shown = dict(dialect.registers), dialect.shown
 
     def register(self, scanner):
         """The number of the register whose name stands here, or None."""
@@ -71,7 +71,7 @@ class Encoder:
         """The value of an expression that is to lie between two numbers; noted otherwise."""
         column, value = scanner.column(), self.expressions.value(scanner)
         if not least <= value <= most:
-            self.note(Fault(f"{value} doesn't fit: it may be {least} to {most}", column))
+            self.note(Fault(f"{self.shown(value)} doesn't fit: it may be {self.shown(least)} to {self.shown(most)}", column))
         return value
 
     def branch(self, scanner, least, most):
@@ -81,7 +81,7 @@ class Encoder:
         if is_odd:
             self.note(Fault("the branch goes to an odd address", column))
         elif not least <= words <= most:
-            self.note(Fault(f"the branch is {words} words long, and may be {least} to {most}", column))
+            self.note(Fault(f"the branch is {self.shown(words)} words long, and may be {self.shown(least)} to {self.shown(most)}", column))
         return words
 
     def operand(self, letter, scanner, words):

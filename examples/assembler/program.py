@@ -14,6 +14,8 @@ from .symbols import Symbols
 DEFINITION = re.compile(r"(\d+\$?(?=[ \t]*:)|[A-Za-z_.$~][\w.$~]*)[ \t]*(::?|==?:?(?!=))")
 WORD = re.compile(r"[A-Za-z_.$~][\w.$~]*")
 NUMBERED = re.compile(r"%[0-7]")
+# how a text goes on behind a name that isn't the first value of a list: with an operand
+OPERAND = re.compile(r"-\(|[^-+*/&!,]")
 PASSES = 10
 MOST_FAULTS = 20
 
@@ -41,8 +43,9 @@ class Assembly:
         self.faults = []
 
     def note(self, fault):
-        """A fault that stands only if it is still there in the last pass."""
-        self.faults.append((self.place, fault))
+        """A fault that stands only if it is still there in the last pass. One that follows another at its place isn't told."""
+        if all((place, other.column) != (self.place, fault.column) for place, other in self.faults):
+            self.faults.append((self.place, fault))
 
     def run(self):
         for _ in range(PASSES):
@@ -159,7 +162,7 @@ class Assembly:
             self.directives.do(word.lower(), scanner, at)
         elif word and word.upper() in self.dialect.instructions:
             self.values(self.encoder.encoded(word, scanner), 2, scanner)
-        elif self.dialect.name == "macro":
+        elif self.dialect.name == "macro" and not (word and OPERAND.match(scanner.rest())):
             # a line of values alone is one of .WORD
             scanner.at = at
             self.directives.do(".word", scanner, at)

@@ -50,6 +50,11 @@ def failure(turn):
     return None
 
 
+def is_trap(turn):
+    """Whether a turn's instruction ended in a service."""
+    return turn.interrupt is None and bool(turn.services or turn.fatal)
+
+
 def cause_of(turn):
     """Why the first service of a turn came, as a sentence without its end."""
     at = f"{turn.snapshot.program:06o}"
@@ -114,10 +119,10 @@ def loop_sentences(turns):
     read = {}
     for turn in turns:
         for one in turn.references:
-            if one.what == "read" and one.place is not None and one.place >= INPUT_OUTPUT_PAGE:
+            if one.what == "read" and one.value is not None and one.place is not None and one.place >= INPUT_OUTPUT_PAGE:
                 read.setdefault(one.place, set()).add(one.value)
     for place, values in sorted(read.items()):
-        shown = " or ".join(f"{value:06o}" for value in sorted(value for value in values if value is not None))
+        shown = " or ".join(f"{value:06o}" for value in sorted(values))
         found.append(f"It reads {place:06o} ({place_name(place) or 'a device'}), and gets {shown} each time.")
     return found
 

@@ -1,12 +1,14 @@
 """Why the machine stopped, and what its last turns were, as lines of text."""
 from .observed import status
-from .reasons import JUMPS, end_sentence, idle_sentences, loop_sentences, mode_of, service_sentence, where, write_sentence
+from .reasons import JUMPS, end_sentence, idle_sentences, is_trap, loop_sentences, mode_of, service_sentence, where, write_sentence
 from .searches import changed_last, last_change, line_that_changed
 from .turns import turn_at, turns_of
 
 NAMES = ("R0", "R1", "R2", "R3", "R4", "R5")
 # how many turns the story looks back
 BACK = 64
+# how many traps one after another are a loop of traps
+TRAPS = 8
 # and how many for who changed a vector or a return address
 REACH = 100000
 
@@ -96,6 +98,19 @@ def popped_change(script, turn, number):
             return
 
 
+def trap_sentences(script, turns):
+    """For a run whose last turns are traps alone: since when, and who changed the vector that the last one took."""
+    last, before, since = turns[-1], -1, script.total - TRAPS
+    while since - before > 1:
+        middle = (before + since) // 2
+        if all(map(is_trap, turns_of(script, middle, TRAPS)[0])):
+            since = middle
+        else:
+            before = middle
+    yield f"Nothing but traps came from turn {since + 1} on. Of the last of them: {service_sentence(last)}."
+    yield from vector_change(script, last, since + 1)
+
+
 def last_turn(script):
     """How many turns there are up to the last that changed a register: those behind it wait, or are a branch to itself."""
     found = last_change(script, "regs", script.total, read=lambda answer: answer[:2])
@@ -108,7 +123,9 @@ def story(script, high):
     turns, devices = turns_of(script, high - back, back)
     yield end_sentence(script, turns[-1])
     reason = script.stop[1]
-    if reason == "turns":
+    if reason == "turns" and len(turns) >= TRAPS and all(map(is_trap, turns[-TRAPS:])):
+        yield from trap_sentences(script, turns)
+    elif reason == "turns":
         yield from loop_sentences(turns)
     elif reason == "idle":
         yield from idle_sentences(devices, turns[-1])
