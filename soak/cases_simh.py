@@ -1,5 +1,5 @@
 """Cases of a file on SIMH's PDP-11 as an 11/40: what differs has to be of a rule that the case names, and of a row of
-soak/README's table. A module for soak/cases; it isn't run by itself."""
+OPERATOR's table. A module for soak/cases; it isn't run by itself."""
 import itertools
 import os
 import re
@@ -10,7 +10,7 @@ sys.path[:0] = [HERE, os.path.join(HERE, "..", "examples")]
 import simh_talk as talk  # noqa: E402
 from cases_reading import PAGES, after, before, differences  # noqa: E402
 
-# Rows of soak/README's table, and the choices of the project that are theirs.
+# Rows of OPERATOR's table, and the choices of the project that are theirs.
 KNOWN = [
     ("words of other models", {"other-models"}),
     ("RTI and RTT with T", {"trace"}),
