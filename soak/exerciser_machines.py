@@ -6,6 +6,7 @@ import select
 import subprocess
 import sys
 import time
+from itertools import takewhile
 
 sys.path.insert(0, os.path.join(os.path.dirname(os.path.abspath(__file__)), "..", "examples"))
 from p11_exerciser import model  # noqa: E402 (the folder is known only now)
@@ -16,6 +17,8 @@ LOADER = "deposit 1000 12700 177406 12710 177400 12740 5 105710 100376 5007"
 SLICE, MOST_TURNS, PATIENCE = 20_000, 20_000_000, 120
 OPTIONS = {"KT11": range(0o772300, 0o772360), "KW11": [0o777546], "RK11": range(0o777400, 0o777420), "LIMIT": [0o777774],
            "SWITCHES": [0o777570]}
+# the options whose bits have other names in the sources
+BITS = {"SWITCHES": "SWR"}
 KT11_TOO = [*range(0o777572, 0o777600), *range(0o777600, 0o777660)]
 
 
@@ -117,6 +120,17 @@ class Model(model.Run):
         """The first line that it types."""
         self.until("\nA ")
         return self.typed.strip().partition("\n")[0]
+
+    def needing(self, option):
+        """The numbers of the groups that need an option."""
+        bit, places = self.names[BITS.get(option, option)], range(self.names["GROUPS"], 0o160000, 0o10)
+        needs = [self.machine.memory[place + 4] for place in takewhile(lambda place: self.machine.memory[place], places)]
+        return [number for number, need in enumerate(needs) if need & bit]
+
+    def leaves_out(self, number):
+        """Whether it says of a group alone that it is left out."""
+        self.panel.switches(number + 1)
+        return self.until(PROMPT) and self.typed.removesuffix(PROMPT).endswith(" LEFT OUT\n\n")
 
     def without(self, option):
         """Takes an option away."""

@@ -29,6 +29,7 @@ DIALOGUES = [
     ("TILES", "game.", [(" ", "W A S D, Q: ")], "q "),
     ("HAMMURABI", "game.", [(" ", "The city has 100 people and 1000 acres.")], "\x03 "),
     ("MAZE", "today.", [("v", "\x1bY")], "q "),
+    ("EXERCISER", "KEY? ", [("P", "RK11 READS OK\r\n\0\0\r\n\0\0KEY? ")], "."),
 ]
 
 

@@ -13,7 +13,7 @@ KEPT = ("p11", "SIMH")
 HEAD = re.compile(r"PDP-11 EXERCISER (\d+) (\d+) K((?: [A-Z0-9]+)*)$")
 GROUP = re.compile(r"([A-Z]) (.+?) (OK|-|(\d+) (.+) ([0-7]{6}) ([0-7]{6}))$")
 SUM = re.compile(r"SUM ([0-7]{6})$")
-OPTIONS = {"EIS": "MUL, DIV, ASH and ASHC", "KT11": "memory management", "KW11": "a line clock", "RK11": "a disk with a pack in drive 0",
+OPTIONS = {"EIS": "MUL, DIV, ASH and ASHC", "KT11": "memory management", "KW11": "a line clock that ticks", "RK11": "a disk with a pack in drive 0",
            "LIMIT": "a stack limit register", "SWITCHES": "a switch register"}
 
 
@@ -46,11 +46,15 @@ class Profile(NamedTuple):
     letters: str
 
 
+def rows_of(name):
+    """The rows of a table."""
+    with open(os.path.join(sources.FOLDER, name), encoding="ascii") as file:
+        return [[part.strip() for part in line.split("|")] for line in file if not line.startswith("#")]
+
+
 def choices():
     """The choices, in their order."""
-    with open(os.path.join(sources.FOLDER, "choices.txt"), encoding="ascii") as file:
-        rows = [[part.strip() for part in line.split("|")] for line in file if not line.startswith("#")]
-    return [Choice(name, rule, meanings) for name, rule, *meanings in rows]
+    return [Choice(name, rule, meanings) for name, rule, *meanings in rows_of("choices.txt")]
 
 
 def sum_of(lines):
@@ -158,16 +162,21 @@ def compared(text):
 
 def told_table(name):
     """A table of two columns, for people."""
-    with open(os.path.join(sources.FOLDER, name), encoding="ascii") as file:
-        rows = [line.split("|") for line in file if not line.startswith("#")]
-    return "".join(textwrap.fill(text.strip(), 118, initial_indent=f"{letters.strip():7} ", subsequent_indent=" " * 8) + "\n"
-                   for letters, text in rows)
+    return "".join(textwrap.fill(text, 118, initial_indent=f"{letters:7} ", subsequent_indent=" " * 8) + "\n"
+                   for letters, text in rows_of(name))
+
+
+def unasked():
+    """The rules for which there is no choice, and why."""
+    return dict(rows_of("unasked.txt"))
 
 
 def told_choices():
-    """The choices with the meanings of their letters, for people."""
+    """The choices with the meanings of their letters, and the rules without one, for people."""
     lines = []
     for choice in choices():
         lines.append(f"{choice.name}  ({place_of(choice)})")
         lines += [f"  {chr(ord('A') + at)}  {meaning}" for at, meaning in enumerate(choice.meanings)]
+    lines.append("Rules without a choice:")
+    lines += [textwrap.fill(f"{rule}: {why}", 118, initial_indent="  ", subsequent_indent="    ") for rule, why in unasked().items()]
     return "\n".join(lines) + "\n"
