@@ -34,10 +34,10 @@ WEAKENED = [
     ),
     (
         "a file may get its name with some of its bytes",
-        "p11_files/src/new_file.rt",
-        "    ensures bytes { OnOk result (Appends (N.state new.old).taken (N.state new.new).taken bytes.now) }\n"
-        "    ensures name { (N.state new.new).is_named ≡ is_ok result }\n    ensures gone",
-        "    ensures name { (N.state new.new).is_named ≡ is_ok result }\n    ensures gone",
+        "p11_files/src/filling.rt",
+        "    ensures ok { OnOk result ((calls : List DiskCall) × Fills new.now path.now bytes.now calls\n"
+        "        × (D.state disk.new ≡ with_calls calls (D.state disk.old))) }\n",
+        "",
         "contract changed: fill (p11_files)",
     ),
     (

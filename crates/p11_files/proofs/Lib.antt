@@ -1,2 +1,5 @@
-pub mod Filling
+pub mod CrashLemmas
+pub mod FillLemmas
+pub mod ReadLemmas
+pub mod ReplaceLemmas
 pub mod Walks

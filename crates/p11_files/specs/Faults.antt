@@ -1,5 +1,5 @@
 -- What a failed call on a file said, as the reason that is shown.
-use Rattle.std.specs.Prelude.{ℕ, ℤ, pos, List, [], ◌∷◌, Option, if◌then◌else◌, ◌==◌, unsigned_abs, unwrap_or, codes}
+use Rattle.std.specs.Prelude.{ℕ, ℤ, pos, Bool, true, false, List, [], ◌∷◌, Option, if◌then◌else◌, ◌==◌, unsigned_abs, unwrap_or, codes}
 use Rattle.std.specs.declared.io.ErrorKind.{ErrorKind}
 use Rattle.std.specs.declared.io.ErrorKind.TheVariants as kinds
 use Rattle.p11_files.specs.declared.file_fault.FileFault.{FileFault}
@@ -81,3 +81,28 @@ text_of Hardware = codes "its device failed"
 text_of NoMemory = codes "there was no memory"
 text_of TooManyOpen = codes "too many files are open"
 text_of Unknown = codes "the system refused it"
+
+-- What the program itself refuses, of which no call fails: a name that isn't one, or leads out of the folder; what is no file; a file
+-- that is protected, has no path or is too long; and for want of memory.
+abbrev pub is_own : FileFault → Bool
+is_own Protected = true
+is_own Folder = true
+is_own NotFile = true
+is_own Nameless = true
+is_own Outside = true
+is_own NotUtf8 = true
+is_own TooLong = true
+is_own NoMemory = true
+is_own NotThere = false
+is_own Denied = false
+is_own NotFolder = false
+is_own ReadOnly = false
+is_own NoRoom = false
+is_own Quota = false
+is_own TooLarge = false
+is_own Busy = false
+is_own Ring = false
+is_own LongName = false
+is_own Hardware = false
+is_own TooManyOpen = false
+is_own Unknown = false

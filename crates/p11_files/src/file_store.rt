@@ -1,25 +1,26 @@
 // The store of files that the programs have: those of the system, whose names are paths from the working folder on.
+ghost use Rattle.p11_files.specs.Disks.{FailsToReplace, ReadsFile, Replaces, WhyNot, limit, untouched};
 ghost use Rattle.p11_files.specs.Told.{TellsPut};
-ghost use Rattle.std.specs.Prelude.{◌≡◌, ◌+◌, ◌<◌, [], ◌∷◌, ◌++◌, true, false, if◌then◌else◌, Some, None, is_ok, IsOk, IfErr, IsSome, OnOk};
+ghost use Rattle.std.specs.Prelude.{◌≡◌, ◌+◌, ◌<◌, [], ◌∷◌, ◌++◌, true, false, Some, None, IsOk, IfOk, IfErr, IsSome, OnOk, option_copied, string_bytes};
+ghost use Rattle.std.specs.Option.{option_map};
 
 use crate::beneath::whole_folder;
 use crate::file_fault::FileFault;
 use crate::reading::{is_file, read_file};
 use crate::replacing::replace_file;
-use crate::told::{ToldCall, ToldCalls, ToldEnds};
+use crate::system_disk::SystemDisk;
+use crate::told::{ToldCall, ToldCalls};
 use p11_store::{Refusals, Store, StoreError};
 use std::alloc::Allocator;
 use std::sync::ledger::{Blank, Ledger};
 
-/// The files of the system. None of them is open between two calls. Contracts know its calls, how each put of the system
-/// ended, and nothing of its files.
+/// The files of the system. None of them is open between two calls. Contracts know its calls, and those of the system's disk.
 #[derive(Drop)]
 pub struct FileStore<'a, L: Ledger> {
     rt: &'a HostRuntime,
     refusals: Refusals<L>,
     calls: ToldCalls,
-    /// How each put of the system ended.
-    puts: ToldEnds,
+    disk: SystemDisk<'a>,
     /// Why the last call failed, where it did.
     fault: Option<FileFault>,
     /// Whether a fetch takes any file, and waits for a pipe or a terminal.
@@ -38,12 +39,13 @@ impl<'a, L: Ledger> FileStore<'a, L> {
         requires some { 0 < blank.parts }
         ensures refusals { result.refusals ≡ 0 }
         ensures calls { result.calls.made ≡ [] }
+        ensures disk { result.disk.told.state ≡ untouched }
     {
         FileStore {
             rt,
             refusals: Refusals::new(blank),
             calls: ToldCalls::new(),
-            puts: ToldEnds::new(),
+            disk: SystemDisk::new(rt),
             fault: None,
             takes_any: false,
             folder: None,
@@ -103,7 +105,8 @@ impl<'a, L: Ledger> FileStore<'a, L> {
 
     /// Tells a call that isn't refused.
     fn tell(&mut self, is_put: bool, name: &[u8])
-        ensures puts { self.new.puts.made ≡ self.old.puts.made }
+        ensures disk { self.new.disk.told.state ≡ self.old.disk.told.state }
+        ensures fault { self.new.fault ≡ self.old.fault }
         ensures count { self.new.refusals ≡ self.old.refusals }
         ensures calls { self.new.calls.made ≡ self.old.calls.made
             ++ record { is_put = is_put; name = name.now; is_refused = false } ∷ [] }
@@ -117,7 +120,8 @@ impl<'a, L: Ledger> FileStore<'a, L> {
 
     /// Refuses a call.
     fn refuse(&mut self, is_put: bool, name: &[u8]) -> StoreError
-        ensures puts { self.new.puts.made ≡ self.old.puts.made }
+        ensures disk { self.new.disk.told.state ≡ self.old.disk.told.state }
+        ensures fault { self.new.fault ≡ self.old.fault }
         ensures error { result ≡ StoreError.Refused }
         ensures count { self.new.refusals ≡ self.old.refusals + 1 }
         ensures calls { self.new.calls.made ≡ self.old.calls.made
@@ -136,16 +140,21 @@ impl<'a, L: Ledger> FileStore<'a, L> {
     fn read<A: Allocator>(&mut self, alloc: A, name: &[u8]) -> Result<Vec<u8, A>, FileFault>
         ensures count { self.new.refusals ≡ self.old.refusals }
         ensures calls { self.new.calls.made ≡ self.old.calls.made }
-        ensures ok { OnOk result (self.new.fault ≡ None) }
-        ensures err { IfErr result (λ fault. self.new.fault ≡ Some fault) }
+        ensures ok { IfOk result (λ bytes. (self.new.fault ≡ None) × ReadsFile (limit self.old.takes_any
+            (option_map string_bytes self.old.folder)) name.now bytes.items self.old.disk.told.state self.new.disk.told.state) }
+        ensures err { IfErr result (λ fault. (self.new.fault ≡ Some fault)
+            × WhyNot fault self.old.disk.told.state self.new.disk.told.state) }
     {
         let takes_any = self.takes_any;
-        let folder = if takes_any {
-            None
-        } else {
-            text_of(&self.folder)
-        };
-        match read_file(self.rt, alloc, folder, name, takes_any) {
+        let folder = limit_of(&self.folder, takes_any);
+        match read_file(
+            &mut self.disk,
+            self.rt.alloc(),
+            alloc,
+            folder,
+            name,
+            takes_any,
+        ) {
             Ok(bytes) => {
                 self.fault = None;
                 Ok(bytes)
@@ -157,46 +166,51 @@ impl<'a, L: Ledger> FileStore<'a, L> {
         }
     }
 
-    /// Leaves bytes in a file of the system, and keeps why it can't be written. Where nothing is to be written this makes no put
-    /// of the system, and says OK.
+    /// Leaves bytes in a file of the system, and keeps why it can't be written. Where nothing is to be written this asks nothing
+    /// of the disk, and says OK.
     fn write(&mut self, name: &[u8], bytes: &[u8]) -> Result<(), FileFault>
         ensures count { self.new.refusals ≡ self.old.refusals }
         ensures calls { self.new.calls.made ≡ self.old.calls.made }
-        ensures puts { self.new.puts.made
-            ≡ (if self.old.is_saveless then self.old.puts.made else self.old.puts.made ++ is_ok result ∷ []) }
-        ensures saveless { self.old.is_saveless ≡ true → IsOk result }
+        ensures saveless { self.old.is_saveless ≡ true → IsOk result × (self.new.disk.told.state ≡ self.old.disk.told.state) }
         ensures ok { OnOk result (self.new.fault ≡ None) }
         ensures err { IfErr result (λ fault. self.new.fault ≡ Some fault) }
+        ensures replaced { self.old.is_saveless ≡ false → OnOk result (Replaces (option_map string_bytes self.old.folder)
+            name.now bytes.now self.old.disk.told.state self.new.disk.told.state) }
+        ensures failed { self.old.is_saveless ≡ false → IfErr result (λ fault.
+            FailsToReplace (option_map string_bytes self.old.folder) name.now bytes.now fault
+            self.old.disk.told.state self.new.disk.told.state) }
     {
         if self.is_saveless {
             self.fault = None;
             return Ok(());
         }
-        match replace_file(self.rt, text_of(&self.folder), name, bytes) {
+        let folder = text_of(&self.folder);
+        match replace_file(&mut self.disk, self.rt.alloc(), folder, name, bytes) {
             Ok(()) => {
-                self.puts = self.puts.then(&true);
                 self.fault = None;
                 Ok(())
             }
             Err(fault) => {
-                self.puts = self.puts.then(&false);
                 self.fault = Some(fault);
                 Err(fault)
             }
         }
     }
 
-    /// Leaves bytes under a name: this says OK just where the system's put went well, and tells that call. Where nothing is to
-    /// be written there is no such put, and this says OK.
+    /// Leaves bytes under a name: this says OK just where the file of the name was replaced, and tells that call. Where nothing
+    /// is to be written it says OK, and no file is.
     fn replace(&mut self, name: &[u8], bytes: &[u8]) -> Result<(), StoreError>
-        ensures puts { self.new.puts.made
-            ≡ (if self.old.is_saveless then self.old.puts.made else self.old.puts.made ++ is_ok result ∷ []) }
-        ensures saveless { self.old.is_saveless ≡ true → IsOk result }
+        ensures saveless { self.old.is_saveless ≡ true → IsOk result × (self.new.disk.told.state ≡ self.old.disk.told.state) }
         ensures ok { OnOk result (TellsPut name.now false self.old.calls.made self.new.calls.made
             × (self.new.refusals ≡ self.old.refusals)) }
         ensures err { IfErr result (λ error. (error ≡ StoreError.Refused)
             × TellsPut name.now true self.old.calls.made self.new.calls.made
             × (self.new.refusals ≡ self.old.refusals + 1)) }
+        ensures replaced { self.old.is_saveless ≡ false → OnOk result (Replaces (option_map string_bytes self.old.folder)
+            name.now bytes.now self.old.disk.told.state self.new.disk.told.state) }
+        ensures failed { self.old.is_saveless ≡ false → IfErr result (λ error. (fault : FileFault) × (self.new.fault ≡ Some fault)
+            × FailsToReplace (option_map string_bytes self.old.folder) name.now bytes.now fault
+            self.old.disk.told.state self.new.disk.told.state) }
     {
         match self.write(name, bytes) {
             Ok(()) => {
@@ -209,11 +223,23 @@ impl<'a, L: Ledger> FileStore<'a, L> {
 }
 
 /// The text of a folder's path.
-fn text_of(folder: &Option<String>) -> Option<&str> {
+fn text_of(folder: &Option<String>) -> Option<&str>
+    ensures { option_copied result ≡ option_map string_bytes folder.now }
+{
     match folder {
         Some(folder) => Some(folder.as_str()),
         None => None,
     }
+}
+
+/// The folder below which alone files are read, unless any may be.
+fn limit_of(folder: &Option<String>, takes_any: bool) -> Option<&str>
+    ensures { option_copied result ≡ limit takes_any (option_map string_bytes folder.now) }
+{
+    if takes_any {
+        return None;
+    }
+    text_of(folder)
 }
 
 impl<'a, L: Ledger> Store for FileStore<'a, L> {

@@ -1,17 +1,21 @@
 // The names of new files, and those that dead processes left.
-ghost use Rattle.std.specs.Prelude.{◌≡◌, ℕ, List, ◌++◌, IsTrue, codes};
+ghost use Rattle.std.specs.Prelude.{◌≡◌, ℕ, List, ◌++◌, IfErr, IsTrue, codes, true};
+ghost use Rattle.p11_files.specs.Faults.{is_own};
 
+use crate::file_fault::FileFault;
+use std::alloc::Global;
 use std::fs::{Metadata, OpenOptions};
 use std::os::unix::fs::MetadataExt;
-use std::{fs, io, process};
+use std::{fs, io};
 
 /// With what the name of a new file begins. A number of the process and one of the file are behind it.
 const FRONT: &str = ".p11-new-";
 
-/// The name of this process's new file of that number.
-pub(crate) fn new_name(rt: &HostRuntime, number: u64) -> io::Result<String> {
-    let process = process::id(rt.process());
-    Ok(format!(in rt.alloc(); "{FRONT}{process}-{number}")?)
+/// The name of a process's new file of that number.
+pub(crate) fn new_name(alloc: Global, process: u32, number: u64) -> Result<String, FileFault>
+    ensures { IfErr result (λ fault. is_own fault ≡ true) }
+{
+    Ok(format!(in alloc; "{FRONT}{process}-{number}")?)
 }
 
 /// Whether a name is one that a new file may have.

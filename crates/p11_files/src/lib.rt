@@ -2,16 +2,22 @@
 #![tactic(auto)]
 
 mod beneath;
+mod crashes;
+mod disk;
 mod file_fault;
 mod file_store;
+mod filling;
 mod leftovers;
-mod new_file;
+mod locating;
 mod reading;
 mod replacing;
+mod system_disk;
 mod told;
 
+pub use crashes::keeps_old_or_new;
+pub use disk::{Act, Disk, Found};
 pub use file_fault::FileFault;
 pub use file_store::FileStore;
-pub use new_file::{NewFile, fill};
 pub use replacing::replace_file;
-pub use told::ToldEnds;
+pub use system_disk::SystemDisk;
+pub use told::{ToldDisk, ToldEnds};

@@ -1,23 +1,19 @@
-// A file of the system is given other bytes: all of them, or it stays as it is.
-ghost use Rattle.std.specs.Prelude.{◌≡◌, ◌↔◌, IsTrue, IfOk, None, false, bit_and};
+// A file is given other bytes: all of them, or it stays as it is.
+ghost use Rattle.std.specs.Prelude.{◌≡◌, ◌↔◌, ℕ, true, List, [], ◌∷◌, ◌++◌, IsTrue, IfOk, IfErr, OnOk, None, Some, Option, bit_and, option_copied, string_bytes};
+ghost use Rattle.p11_files.specs.Disks.{Beside, FailsToPlace, FailsToReplace, Leads, OnlyLooked, Places, Replaces, WhyNot, well, with_calls};
+ghost use Rattle.p11_files.specs.Faults.{is_own};
 
-use crate::beneath::{folder_below, path_from};
+use crate::beneath::{is_below, joined, name_in, named_below};
+use crate::disk::{Act, Disk};
 use crate::file_fault::FileFault;
-use crate::leftovers::{clear, is_at, new_name};
-use crate::new_file::{NewFile, fill};
-use std::fs::{File, Metadata, OpenOptions, Permissions, TryLockError};
-use std::io::{ErrorKind, Write};
-use std::os::unix::fs::{MetadataExt, OpenOptionsExt, PermissionsExt, fchown};
-use std::{fs, io};
-
-/// How many names are looked at where links lead from one to the next.
-const MOST_LINKED: u32 = 40;
+use crate::filling::fill;
+use crate::leftovers::new_name;
+use std::alloc::Global;
+use std::fs::Metadata;
+use std::os::unix::fs::MetadataExt;
 
 /// The bit of a file's mode that lets its owner write.
 const OWNER_WRITES: u32 = 0o200;
-
-/// The bits of a file's mode that say who may read, write and run it.
-const PERMISSION_BITS: u32 = 0o777;
 
 /// The mode of a file where there was none; the system takes from it what the user's mask says.
 const NEW_MODE: u32 = 0o666;
@@ -27,7 +23,9 @@ const CLOSED_MODE: u32 = 0o600;
 
 /// Where the bytes of a name go.
 #[derive(Drop)]
-struct Place {
+struct Spot {
+    /// The path of its folder, with which its own path begins.
+    folder: String,
     path: String,
     /// What is there already.
     old: Option<Metadata>,
@@ -36,177 +34,153 @@ struct Place {
 /// Leaves these bytes under a name, in the file to which its links lead: they are written to a new file beside it,
 /// which then takes its place. So what was there stays whole where they can't be written. Only a file that may be
 /// written is replaced, and no folder or device; where a folder is given, which has a slash behind it, one below it.
-pub fn replace_file(
-    rt: &HostRuntime,
+///
+/// # Errors
+///
+/// Why a call failed, or why the program refuses it.
+pub fn replace_file<D: Disk>(
+    disk: &mut D,
+    alloc: Global,
     folder: Option<&str>,
     name: &[u8],
     bytes: &[u8],
-) -> Result<(), FileFault> {
+) -> Result<(), FileFault>
+    ensures ok { OnOk result (Replaces (option_copied folder.entry) name.now bytes.now (D.state disk.old) (D.state disk.new)) }
+    ensures err { IfErr result (λ fault. FailsToReplace (option_copied folder.entry) name.now bytes.now fault
+        (D.state disk.old) (D.state disk.new)) }
+{
+    let done = replace(disk, alloc, folder, name, bytes);
+    disk.close();
+    done
+}
+
+/// The same, and leaves the new file open.
+fn replace<D: Disk>(
+    disk: &mut D,
+    alloc: Global,
+    folder: Option<&str>,
+    name: &[u8],
+    bytes: &[u8],
+) -> Result<(), FileFault>
+    ensures ok { OnOk result (Replaces (option_copied folder.entry) name.now bytes.now (D.state disk.old) (D.state disk.new)) }
+    ensures err { IfErr result (λ fault. FailsToReplace (option_copied folder.entry) name.now bytes.now fault
+        (D.state disk.old) (D.state disk.new)) }
+{
     let Ok(name) = str::from_utf8(name) else {
         return Err(FileFault::NotUtf8);
     };
-    let place = match folder {
-        Some(folder) => place_below(rt, folder, name)?,
-        None => checked_place(rt, name)?,
-    };
-    clear(rt, folder_of(place.path.as_str()));
-    let mut new = system_file(rt, &place)?;
-    fill(&mut new, bytes)?;
-    settle(rt, place.path.as_str())?;
-    Ok(())
-}
-
-/// A new file of the system, which doesn't tell its bytes.
-#[derive(Drop)]
-struct SystemFile<'a> {
-    rt: &'a HostRuntime,
-    file: File,
-    path: String,
-    place: &'a Place,
-    is_on_disk: bool,
-    is_named: bool,
-    is_gone: bool,
-}
-
-impl NewFile for SystemFile<'_> {
-    ghost state = { λ f. record {
-      taken = None;
-      is_on_disk = f.is_on_disk;
-      is_named = f.is_named;
-      is_gone = f.is_gone;
-    } };
-
-    fn write(&mut self, bytes: &[u8]) -> io::Result<usize> {
-        self.is_on_disk = false;
-        self.file.write_all(bytes)?;
-        Ok(bytes.len())
-    }
-
-    fn bring_to_disk(&mut self) -> io::Result<()> {
-        self.is_on_disk = false;
-        if let Some(old) = &self.place.old {
-            take_rights(&self.file, old)?;
-        }
-        self.file.sync_all()?;
-        self.is_on_disk = true;
-        Ok(())
-    }
-
-    fn take_place(&mut self) -> io::Result<()> {
-        fs::rename(self.rt, self.path.as_str(), self.place.path.as_str())?;
-        self.is_named = true;
-        Ok(())
-    }
-
-    fn discard(&mut self) {
-        let _ = fs::remove_file(self.rt, self.path.as_str());
-        self.is_gone = true;
+    match folder {
+        Some(folder) => replace_below(disk, alloc, folder, name, bytes),
+        None => replace_anywhere(disk, alloc, name, bytes),
     }
 }
 
-/// Follows the links at the end of a name, also to a file that isn't there yet.
-fn place_of(rt: &HostRuntime, name: &str) -> io::Result<Place> {
-    let mut path = String::from_str(rt.alloc(), name)?;
-    for _ in 0..MOST_LINKED {
-        match fs::symlink_metadata(rt, path.as_str()) {
-            Ok(there) if there.is_symlink() => path = linked(rt, path.as_str())?,
-            Ok(there) => {
-                let old = Some(there);
-                return Ok(Place { path, old });
-            }
-            Err(error) if error.kind() == ErrorKind::NotFound => {
-                return Ok(Place { path, old: None });
-            }
-            Err(error) => return Err(error),
-        }
-    }
-    Err(io::Error::from(ErrorKind::FilesystemLoop))
-}
-
-/// The path to which a link leads.
-fn linked(rt: &HostRuntime, link: &str) -> io::Result<String> {
-    let to = fs::read_link(rt, link)?;
-    if to.as_str().starts_with('/') {
-        return Ok(String::from_str(rt.alloc(), to.as_str())?);
-    }
-    beside(rt, link, to.as_str())
-}
-
-/// The path of another name in the folder of this path.
-fn beside(rt: &HostRuntime, path: &str, name: &str) -> io::Result<String> {
-    match path.rsplit_once('/') {
-        Some((folder, _)) => Ok(format!(in rt.alloc(); "{folder}/{name}")?),
-        None => Ok(String::from_str(rt.alloc(), name)?),
+/// Replaces the file to which a name leads.
+#[tactic(auto, using(crate::proofs::ReplaceLemmas::replaced, crate::proofs::ReplaceLemmas::not_found, crate::proofs::ReplaceLemmas::not_placed))]
+fn replace_anywhere<D: Disk>(
+    disk: &mut D,
+    alloc: Global,
+    name: &str,
+    bytes: &[u8],
+) -> Result<(), FileFault>
+    ensures ok { OnOk result (Replaces None name.now bytes.now (D.state disk.old) (D.state disk.new)) }
+    ensures err { IfErr result (λ fault. FailsToReplace None name.now bytes.now fault (D.state disk.old) (D.state disk.new)) }
+{
+    match find_anywhere(disk, alloc, name) {
+        Ok(spot) => place(disk, alloc, &spot, bytes),
+        Err(fault) => Err(fault),
     }
 }
 
-/// The folder of a path.
-fn folder_of(path: &str) -> &str {
-    match path.rsplit_once('/') {
-        Some(("", _)) => "/",
-        Some((folder, _)) => folder,
-        None => ".",
+/// Replaces the file to which a name below a folder leads.
+#[tactic(auto, using(crate::proofs::ReplaceLemmas::replaced, crate::proofs::ReplaceLemmas::not_found, crate::proofs::ReplaceLemmas::not_placed))]
+fn replace_below<D: Disk>(
+    disk: &mut D,
+    alloc: Global,
+    folder: &str,
+    name: &str,
+    bytes: &[u8],
+) -> Result<(), FileFault>
+    ensures ok { OnOk result (Replaces (Some folder.now) name.now bytes.now (D.state disk.old) (D.state disk.new)) }
+    ensures err { IfErr result (λ fault. FailsToReplace (Some folder.now) name.now bytes.now fault
+        (D.state disk.old) (D.state disk.new)) }
+{
+    match find_below(disk, alloc, folder, name) {
+        Ok(spot) => place(disk, alloc, &spot, bytes),
+        Err(fault) => Err(fault),
     }
-}
-
-/// Brings the entry of a file that has its name to the disk, on those file systems that have a call for it, where the
-/// folder may be read.
-fn settle(rt: &HostRuntime, path: &str) -> io::Result<()> {
-    let Ok(folder) = File::open(rt, folder_of(path)) else {
-        return Ok(());
-    };
-    match folder.sync_all() {
-        Err(error) if is_call_missing(error.kind()) => Ok(()),
-        done => done,
-    }
-}
-
-/// Whether a file system has no such call.
-fn is_call_missing(kind: ErrorKind) -> bool {
-    matches!(kind, ErrorKind::InvalidInput | ErrorKind::Unsupported)
 }
 
 /// Where a name leads, if a new file may take that place.
-fn checked_place(rt: &HostRuntime, name: &str) -> Result<Place, FileFault> {
-    let place = place_of(rt, name)?;
-    check_place(rt, name, &place)?;
-    Ok(place)
+fn find_anywhere<D: Disk>(disk: &mut D, alloc: Global, name: &str) -> Result<Spot, FileFault>
+    ensures made { (D.state disk.new).made ≡ (D.state disk.old).made }
+    ensures ok { IfOk result (λ spot. Leads None name.now (string_bytes spot.path) (D.state disk.new)
+        × ((D.state disk.new).reason ≡ (D.state disk.old).reason)
+        × ((last : List ℕ) × (string_bytes spot.path ≡ string_bytes spot.folder ++ last))) }
+    ensures err { IfErr result (λ fault. WhyNot fault (D.state disk.old) (D.state disk.new)) }
+{
+    let found = disk.locate(name)?;
+    let path = joined(alloc, found.folder.as_str(), found.last.as_str())?;
+    check_place(disk, name, path.as_str(), &found.old)?;
+    Ok(Spot {
+        folder: found.folder,
+        path,
+        old: found.old,
+    })
 }
 
 /// Where a name below a folder leads, if a new file may take that place and it is below the folder.
-fn place_below(rt: &HostRuntime, folder: &str, name: &str) -> Result<Place, FileFault> {
-    let named = path_from(rt, folder, name)?;
-    let leads = place_of(rt, named.as_str())?;
-    let mut path = folder_below(rt, folder, folder_of(leads.path.as_str()))?;
-    path.push_str(last_of(leads.path.as_str()))?;
-    let old = leads.old;
-    let place = Place { path, old };
-    check_place(rt, named.as_str(), &place)?;
-    Ok(place)
-}
-
-/// The last name of a path.
-fn last_of(path: &str) -> &str {
-    match path.rsplit_once('/') {
-        Some((_, name)) => name,
-        None => path,
+fn find_below<D: Disk>(
+    disk: &mut D,
+    alloc: Global,
+    folder: &str,
+    name: &str,
+) -> Result<Spot, FileFault>
+    ensures made { (D.state disk.new).made ≡ (D.state disk.old).made }
+    ensures ok { IfOk result (λ spot. Leads (Some folder.now) name.now (string_bytes spot.path) (D.state disk.new)
+        × ((D.state disk.new).reason ≡ (D.state disk.old).reason)
+        × ((last : List ℕ) × (string_bytes spot.path ≡ string_bytes spot.folder ++ last))) }
+    ensures err { IfErr result (λ fault. WhyNot fault (D.state disk.old) (D.state disk.new)) }
+{
+    let named = named_below(alloc, folder, name)?;
+    let found = disk.locate(named.as_str())?;
+    let whole = disk.whole_folder(found.folder.as_str())?;
+    if !is_below(folder, whole.as_str()) {
+        return Err(FileFault::Outside);
     }
+    let path = name_in(alloc, whole.as_str(), found.last.as_str())?;
+    check_place(disk, named.as_str(), path.as_str(), &found.old)?;
+    Ok(Spot {
+        folder: whole,
+        path,
+        old: found.old,
+    })
 }
 
 /// Refuses a place that no new file may take: what is there may not be replaced, or the system finds under the name
 /// what has no path.
-fn check_place(rt: &HostRuntime, named: &str, place: &Place) -> Result<(), FileFault> {
-    if let Some(old) = &place.old {
-        return check_old(rt, place.path.as_str(), old);
+fn check_place<D: Disk>(
+    disk: &mut D,
+    named: &str,
+    path: &str,
+    old: &Option<Metadata>,
+) -> Result<(), FileFault>
+    ensures looked { OnlyLooked (D.state disk.old) (D.state disk.new) }
+    ensures ok { OnOk result ((D.state disk.new).reason ≡ (D.state disk.old).reason) }
+    ensures err { IfErr result (λ fault. WhyNot fault (D.state disk.old) (D.state disk.new)) }
+{
+    match old {
+        Some(old) => check_old(disk, path, old),
+        None => check_new(disk, named),
     }
-    if fs::exists(rt, named)? {
-        return Err(FileFault::Nameless);
-    }
-    Ok(())
 }
 
 /// Refuses what is no file, and a file that may not be written.
-fn check_old(rt: &HostRuntime, path: &str, old: &Metadata) -> Result<(), FileFault> {
+fn check_old<D: Disk>(disk: &mut D, path: &str, old: &Metadata) -> Result<(), FileFault>
+    ensures looked { OnlyLooked (D.state disk.old) (D.state disk.new) }
+    ensures ok { OnOk result ((D.state disk.new).reason ≡ (D.state disk.old).reason) }
+    ensures err { IfErr result (λ fault. WhyNot fault (D.state disk.old) (D.state disk.new)) }
+{
     if old.is_dir() {
         return Err(FileFault::Folder);
     }
@@ -216,8 +190,20 @@ fn check_old(rt: &HostRuntime, path: &str, old: &Metadata) -> Result<(), FileFau
     if is_protected(old.mode()) {
         return Err(FileFault::Protected);
     }
-    OpenOptions::new().write(true).open(rt, path)?;
-    Ok(())
+    disk.may_write(path)
+}
+
+/// Refuses a name that has no file, and under which the system finds something.
+fn check_new<D: Disk>(disk: &mut D, named: &str) -> Result<(), FileFault>
+    ensures looked { OnlyLooked (D.state disk.old) (D.state disk.new) }
+    ensures ok { OnOk result ((D.state disk.new).reason ≡ (D.state disk.old).reason) }
+    ensures err { IfErr result (λ fault. WhyNot fault (D.state disk.old) (D.state disk.new)) }
+{
+    match disk.is_there(named) {
+        Ok(true) => Err(FileFault::Nameless),
+        Ok(false) => Ok(()),
+        Err(fault) => Err(fault),
+    }
 }
 
 /// Whether a file's mode forbids its owner to write it.
@@ -227,74 +213,39 @@ fn is_protected(mode: u32) -> bool
     mode & OWNER_WRITES == 0
 }
 
-/// A new file in the folder of this place.
-fn system_file<'a>(rt: &'a HostRuntime, place: &'a Place) -> io::Result<SystemFile<'a>>
-    ensures { IfOk result (λ new. new.is_named ≡ false) }
+/// Makes a new file beside a place, gives it the bytes, and then the place.
+#[tactic(auto, using(crate::proofs::ReplaceLemmas::placed, crate::proofs::ReplaceLemmas::not_made, crate::proofs::ReplaceLemmas::not_filled))]
+fn place<D: Disk>(disk: &mut D, alloc: Global, spot: &Spot, bytes: &[u8]) -> Result<(), FileFault>
+    requires { (last : List ℕ) × (string_bytes spot.now.path ≡ string_bytes spot.now.folder ++ last) }
+    ensures ok { OnOk result (Places (string_bytes spot.now.path) bytes.now (D.state disk.old) (D.state disk.new)) }
+    ensures err { IfErr result (λ fault. FailsToPlace (string_bytes spot.now.path) bytes.now fault
+        (D.state disk.old) (D.state disk.new)) }
 {
-    let (path, file) = new_file(rt, place)?;
-    Ok(SystemFile {
-        rt,
-        file,
-        path,
-        place,
-        is_on_disk: false,
-        is_named: false,
-        is_gone: false,
-    })
+    disk.clear(spot.path.as_str());
+    match make_new(disk, alloc, spot) {
+        Ok(new) => fill(disk, new.as_str(), spot.path.as_str(), &spot.old, bytes),
+        Err(fault) => Err(fault),
+    }
 }
 
-/// A new file in the folder of this place, and its own path, which no other process has. While it is open its lock says
-/// that it is being written.
-fn new_file(rt: &HostRuntime, place: &Place) -> io::Result<(String, File)> {
-    let mode = match place.old {
+/// Makes a new file beside a place, under a path that nothing has.
+fn make_new<D: Disk>(disk: &mut D, alloc: Global, spot: &Spot) -> Result<String, FileFault>
+    requires { (last : List ℕ) × (string_bytes spot.now.path ≡ string_bytes spot.now.folder ++ last) }
+    ensures ok { IfOk result (λ new. Beside (string_bytes spot.now.path) (string_bytes new)
+        × (D.state disk.new ≡ with_calls (well Act.Create (string_bytes new) [] ∷ []) (D.state disk.old))) }
+    ensures err { IfErr result (λ fault. OnlyLooked (D.state disk.old) (D.state disk.new)
+        × WhyNot fault (D.state disk.old) (D.state disk.new)) }
+{
+    let mode = match &spot.old {
         Some(_) => CLOSED_MODE,
         None => NEW_MODE,
     };
     for number in 0..u64::MAX {
-        let name = new_name(rt, number)?;
-        let new = beside(rt, place.path.as_str(), name.as_str())?;
-        match create_new(rt, new.as_str(), mode) {
-            Ok(file) => {
-                if is_kept(rt, &file, new.as_str())? {
-                    return Ok((new, file));
-                }
-            }
-            Err(error) if error.kind() == ErrorKind::AlreadyExists => {}
-            Err(error) => return Err(error),
+        let name = new_name(alloc, disk.process(), number)?;
+        let new = name_in(alloc, spot.folder.as_str(), name.as_str())?;
+        if new.as_str() != spot.path.as_str() && disk.create_new(new.as_str(), mode)? {
+            return Ok(new);
         }
     }
-    Err(io::Error::from(ErrorKind::AlreadyExists))
-}
-
-/// Locks a new file; whether it is there still. Until it was locked another process may have taken it for one that was left.
-fn is_kept(rt: &HostRuntime, file: &File, path: &str) -> io::Result<bool> {
-    if let Err(TryLockError::WouldBlock) = file.try_lock() {
-        return Ok(false);
-    }
-    let made = file.metadata()?;
-    Ok(made.nlink() > 0 || is_at(rt, &made, path))
-}
-
-/// Makes a file of this path, where nothing may be yet.
-fn create_new(rt: &HostRuntime, path: &str, mode: u32) -> io::Result<File> {
-    OpenOptions::new()
-        .write(true)
-        .create_new(true)
-        .mode(mode)
-        .open(rt, path)
-}
-
-/// Gives a new file the permission bits of an old one, and its owner and group where the system lets it.
-fn take_rights(file: &File, old: &Metadata) -> io::Result<()> {
-    if fchown(file, Some(old.uid()), Some(old.gid())).is_err() {
-        let _ = fchown(file, None, Some(old.gid()));
-    }
-    file.set_permissions(Permissions::from_mode(permission_bits(old.mode())))
-}
-
-/// What a mode says of who may read, write and run.
-fn permission_bits(mode: u32) -> u32
-    ensures { result ≡ bit_and mode 0o777 }
-{
-    mode & PERMISSION_BITS
+    Err(FileFault::Nameless)
 }

@@ -2,8 +2,11 @@
 ghost use Rattle.std.specs.Prelude.{◌≡◌, Bool, List, [], ◌∷◌, ◌++◌};
 ghost use Rattle.std.specs.Borrow.{ftrue};
 ghost use Rattle.p11_store.specs.Store.{StoreCall};
+ghost use Rattle.p11_files.specs.Disks.{DiskState, after, disk_code, reason_in, untouched};
 ghost use Rattle.p11_files.specs.Told.{calls_code};
 
+use crate::disk::Act;
+use crate::file_fault::FileFault;
 use std::marker::Model;
 
 /// A call: whether a file was put or asked for, its name, and whether that was refused.
@@ -38,6 +41,46 @@ impl ToldCalls {
             ++ record { is_put = _call.now.is_put; name = _call.now.name.now; is_refused = _call.now.is_refused } ∷ [] }
     {
         ToldCalls {}
+    }
+}
+
+/// A call of a disk: what was asked, the path that it names, what it gave or took, and why it failed, if it did.
+#[derive(Clone, Copy, Drop)]
+pub struct MadeCall<'a> {
+    pub act: Act,
+    pub path: &'a [u8],
+    pub other: &'a [u8],
+    pub fault: Option<FileFault>,
+}
+
+/// What a disk was asked, and how each call ended. It takes no bytes, and its methods do nothing at run time.
+#[derive(Drop)]
+pub struct ToldDisk {
+    pub ghost state: { DiskState } by { disk_code },
+}
+
+impl Model for ToldDisk {
+    ghost also_owns = { λ _. ftrue };
+}
+
+impl ToldDisk {
+    /// No call yet.
+    pub(crate) fn new() -> ToldDisk
+        ensures { result.state ≡ untouched }
+    {
+        ToldDisk {}
+    }
+
+    /// These calls, and one more.
+    pub(crate) fn then(&self, _call: &MadeCall<'_>) -> ToldDisk
+        ensures { result.state ≡ after self.now.state (record {
+          act = _call.now.act;
+          path = _call.now.path.now;
+          other = _call.now.other.now;
+          reason = reason_in _call.now.fault;
+        }) }
+    {
+        ToldDisk {}
     }
 }
 

@@ -1,6 +1,6 @@
 // Packs that no file has, in files beside their images.
 use crate::notice::notice;
-use p11_files::{FileFault, replace_file};
+use p11_files::{FileFault, SystemDisk, replace_file};
 use p11_host::rescue_mode;
 use std::fs::OpenOptions;
 use std::io::ErrorKind;
@@ -110,13 +110,19 @@ fn say_those_of(rt: &HostRuntime, path: &str, rescue: &str) {
 fn keep_pack(rt: &HostRuntime, pack: &mut Pack, image: &[u8]) -> Result<String, FileFault> {
     let file = match &pack.kept {
         Some(kept) => {
-            replace_file(rt, None, kept.as_bytes(), image)?;
+            replace(rt, kept.as_str(), image)?;
             String::from_str(rt.alloc(), kept.as_str())?
         }
         None => new_rescue(rt, pack.path.as_str(), image)?,
     };
     pack.kept = Some(String::from_str(rt.alloc(), file.as_str())?);
     Ok(file)
+}
+
+/// Leaves these bytes in a file, all of them, or the file as it is.
+fn replace(rt: &HostRuntime, path: &str, image: &[u8]) -> Result<(), FileFault> {
+    let mut disk = SystemDisk::new(rt);
+    replace_file(&mut disk, rt.alloc(), None, path.as_bytes(), image)
 }
 
 /// Keeps a pack in a new file, beside its image or else in the user's folder for what programs leave.
@@ -154,7 +160,7 @@ fn leave(rt: &HostRuntime, path: &str, mode: u32, image: &[u8]) -> Result<String
         .create_new(true)
         .mode(mode)
         .open(rt, own.as_str())?;
-    if let Err(fault) = replace_file(rt, None, own.as_bytes(), image) {
+    if let Err(fault) = replace(rt, own.as_str(), image) {
         let _ = fs::remove_file(rt, own.as_str());
         return Err(fault);
     }
