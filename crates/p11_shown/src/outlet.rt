@@ -1,9 +1,11 @@
 // Where bytes go that a person reads.
-ghost use Rattle.std.specs.Prelude.{◌≡◌, OnOk, OnErr, if◌then◌else◌};
+ghost use Rattle.std.specs.Prelude.{◌≡◌, OnOk, OnErr, map, if◌then◌else◌};
 ghost use Rattle.std.specs.Io.KnownBytes.{Appends};
+ghost use Rattle.p11_shown.specs.Bits.{without_parity};
 ghost use Rattle.p11_shown.specs.Outlets.{AppendsFront, let_through};
 ghost use Rattle.p11_shown.specs.Screen.{after, fresh};
 
+use crate::bits::{Bits, all_without_parity};
 use crate::screen::Screen;
 use std::alloc::Allocator;
 use std::io::Write;
@@ -60,6 +62,32 @@ impl<W: Write> Outlet<W> {
             Ok(passed) => write_whole(&mut self.writer, passed.as_slice()),
             Err(_) => Err(OutletFault::NoMemory),
         }
+    }
+
+    /// Writes what passes of bytes that the machine has typed, to a terminal of so many bits. Where all bytes pass they have their
+    /// parity still if it has eight.
+    ///
+    /// # Errors
+    ///
+    /// The writer failed or took nothing, or there was no memory. A front of what passes was written, perhaps nothing.
+    pub fn write_typed<A: Allocator + Copy>(
+        &mut self,
+        alloc: A,
+        bits: Bits,
+        bytes: &[u8],
+    ) -> Result<(), OutletFault>
+        ensures ok { OnOk result (Appends (W.contents self.old.writer) (W.contents self.new.writer)
+            (let_through self.old.is_raw self.old.screen (map (without_parity bits) bytes.now))) }
+        ensures err { OnErr result (AppendsFront (W.contents self.old.writer) (W.contents self.new.writer)
+            (let_through self.old.is_raw self.old.screen (map (without_parity bits) bytes.now))) }
+        ensures screen { OnOk result (self.new.screen
+            ≡ (if self.old.is_raw then self.old.screen else after self.old.screen (map (without_parity bits) bytes.now))) }
+        ensures raw { self.new.is_raw ≡ self.old.is_raw }
+    {
+        let Ok(seen) = all_without_parity(alloc, bits, bytes) else {
+            return Err(OutletFault::NoMemory);
+        };
+        self.write(alloc, seen.as_slice())
     }
 }
 

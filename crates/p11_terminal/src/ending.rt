@@ -18,6 +18,12 @@ pub(crate) enum Cause {
     BadSize,
     /// No run has slices of that many turns.
     BadSlice,
+    /// No terminal has so many bits.
+    BadBits,
+    /// No mains have so many cycles.
+    BadHertz,
+    /// No pace has so many turns.
+    BadSpeed,
     /// There was no memory to go on.
     NoMemory,
     /// The record's file can't be made.
@@ -60,8 +66,14 @@ pub(crate) fn ending(cause: &Cause) -> (u8, &str) {
         Cause::Help(text) => (0, text.as_str()),
         Cause::Usage(text) => (2, text.as_str()),
         Cause::NotUtf8 => (2, "terminal: arguments are not UTF-8\n"),
-        Cause::BadSize => (2, "? 15 BadSize\n"),
-        Cause::BadSlice => (2, "terminal: a slice has 1 to 100000000 turns\n"),
+        Cause::BadSize => (
+            2,
+            "terminal: --memory is 4 to 124, in steps of 4, and --lines 0 to 4096\n",
+        ),
+        Cause::BadSlice => (2, "terminal: --slice is 1 to 100000000 turns\n"),
+        Cause::BadBits => (2, "terminal: --bits is 7 or 8\n"),
+        Cause::BadHertz => (2, "terminal: --hz is 60, 50 or off\n"),
+        Cause::BadSpeed => (2, "terminal: --speed is 1000 to 100000000 turns a second\n"),
         Cause::NoMemory => (3, "terminal: no memory\n"),
         Cause::NoRecord => (1, "terminal: the record's file can't be made\n"),
         Cause::NoHistory => (

@@ -5,19 +5,20 @@ use crate::folder::names_of;
 use crate::journal::Journal;
 use crate::notice::notice;
 use crate::rescue::Rescues;
+use crate::timing::Timing;
 use crate::window::{Told, told_in};
 use p11_console::{Console, Want};
 use p11_host::{Course, End, end_of};
-use p11_shown::{Outlet, OutletFault};
-use std::fs::File;
+use p11_shown::{Bits, Outlet, OutletFault, sent_of};
+use std::fs::{File, OpenOptions};
 use std::io::{IsTerminal, Read, Stderr, Stdin, Stdout, Write};
 use std::os::unix::process::parent_id;
 use std::sync::ledger::Ledger;
 use std::thread;
 use std::time::{Clock, Duration};
 
-/// How many milliseconds it waits where nothing is pressed.
-const PAUSE_MS: u64 = 20;
+/// How many milliseconds it sleeps where the pace allows no turn.
+const HOLD_MS: u64 = 4;
 
 /// How many milliseconds pass at least between two looks at the keyboard while the console is at work.
 const LOOK_MS: u64 = 5;
@@ -27,6 +28,15 @@ const READ_BYTES: usize = 4096;
 
 /// Ctrl-E, which ends a run.
 const ESCAPE: u8 = 5;
+
+/// Ctrl-Z, by which a person at the console asks for the shell.
+const SUSPEND: u8 = 0o32;
+
+/// What tells a person that a key is none.
+const BELL: &[u8] = b"\x07";
+
+/// What asks the launcher for the shell.
+const ASKS: &[u8] = b"suspend\n";
 
 /// So many steps end a run and record it.
 const LAST_STEPS: u32 = 8;
@@ -48,6 +58,15 @@ pub(crate) struct Host<'a, L: Ledger> {
     pub(crate) has_write_fault: bool,
     pub(crate) screen: Outlet<Stdout>,
     pub(crate) errors: Outlet<Stderr>,
+    /// How many bits the machine's terminal has.
+    pub(crate) bits: Bits,
+    /// Whether the machine has typed what is for the screen, and not the console.
+    pub(crate) is_machines: bool,
+    /// Whether the last step made turns: then the next one shows what was typed in them.
+    pub(crate) has_run: bool,
+    /// Whether a run is under way, so that keys are the machine's.
+    pub(crate) is_running: bool,
+    pub(crate) timing: Timing,
     pub(crate) files: Files<'a, L>,
     pub(crate) journal: Journal,
     /// The folder below which names are looked up.
@@ -56,6 +75,8 @@ pub(crate) struct Host<'a, L: Ledger> {
     pub(crate) past: Option<File>,
     /// The file in which the launcher tells the terminal's size, and a signal.
     pub(crate) told: Option<String>,
+    /// The file that takes what the launcher is asked.
+    pub(crate) asks: Option<String>,
     /// The process that has started this one.
     pub(crate) parent: u32,
     /// How often the terminal had been another program's when the line was shown last.
@@ -90,14 +111,26 @@ impl<L: Ledger> Host<'_, L> {
             if self.is_done() {
                 break;
             }
-            let want = self.console.step(self.rt.alloc(), self.slice);
+            let turns = self.timing.slice(self.rt, self.slice);
+            if turns == 0 && self.is_running && self.last_steps.is_none() {
+                self.hold_back()?;
+                continue;
+            }
+            let want = self.step(turns)?;
+            let is_ticking = (self.has_run || want == Want::Idle) && self.tick();
             if want == Want::Step && self.is_early() {
                 continue;
             }
             self.write()?;
             match want {
                 Want::Step => self.look()?,
-                Want::Keys | Want::Idle => self.wait()?,
+                Want::Idle if is_ticking => self.look()?,
+                Want::Idle => self.wait()?,
+                Want::Keys => {
+                    self.is_running = false;
+                    self.timing.stop();
+                    self.wait()?;
+                }
                 Want::Fetch => self.fetch(),
                 Want::Put => self.put(),
                 Want::Names => self.give_names(),
@@ -107,6 +140,59 @@ impl<L: Ledger> Host<'_, L> {
         }
         self.write()?;
         Ok(self.ending())
+    }
+
+    /// Makes a step. What the console shows is kept apart from what the machine has typed.
+    fn step(&mut self, turns: u32) -> Result<Want, Cause> {
+        let is_machines = self.has_run;
+        let len = self.console.screen().len();
+        let before = self.turns();
+        let want = self.console.step(self.rt.alloc(), turns);
+        if self.console.screen().len() > len && is_machines != self.is_machines {
+            self.show(len)?;
+            self.is_machines = is_machines;
+        }
+        let made = self.turns().saturating_sub(before);
+        self.has_run = made > 0;
+        if made > 0 {
+            self.timing.made(self.rt, made);
+        }
+        if made > 0 || want == Want::Idle {
+            self.is_running = true;
+        }
+        Ok(want)
+    }
+
+    /// The turns since the machine was made.
+    fn turns(&self) -> u64 {
+        self.console.panel().registers().turns
+    }
+
+    /// Lets the line clock tick, if it is time: whether it does.
+    fn tick(&mut self) -> bool {
+        if self.last_steps.is_some() {
+            return false;
+        }
+        let ticks = self.timing.tick(self.rt);
+        if ticks.left_out > 0 {
+            let count = ticks.left_out;
+            if let Ok(text) = format!(in self.rt.alloc();
+                "the host stood still: {count} ticks of the line clock are left out"
+            ) {
+                notice(self.rt, text.as_str());
+            }
+        }
+        if ticks.is_given {
+            self.console.ticked();
+        }
+        ticks.is_given
+    }
+
+    /// Sleeps, since the pace allows no turn.
+    fn hold_back(&mut self) -> Result<(), Cause> {
+        self.write()?;
+        thread::sleep(self.rt, Duration::from_millis(HOLD_MS));
+        self.look()
     }
 
     /// How the dialogue ended.
@@ -168,11 +254,24 @@ impl<L: Ledger> Host<'_, L> {
         }
         self.console.kept(count);
         let count = self.console.screen().len();
-        let done = self.screen.write(self.rt.alloc(), self.console.screen());
-        self.console.shown(count);
-        self.take_written(done)?;
+        self.show(count)?;
+        self.is_machines = false;
         self.errors.write(self.rt.alloc(), self.console.errors())?;
         self.console.told();
+        Ok(())
+    }
+
+    /// Writes so many bytes of the screen's, or all if there are fewer.
+    fn show(&mut self, count: usize) -> Result<(), Cause> {
+        let count = count.min(self.console.screen().len());
+        let bytes = &self.console.screen()[..count];
+        let done = if self.is_machines {
+            self.screen.write_typed(self.rt.alloc(), self.bits, bytes)
+        } else {
+            self.screen.write(self.rt.alloc(), bytes)
+        };
+        self.console.shown(count);
+        self.take_written(done)?;
         Ok(())
     }
 
@@ -196,12 +295,15 @@ impl<L: Ledger> Host<'_, L> {
         Ok(())
     }
 
-    /// Waits for keys: at a terminal for a moment. An ESC behind which nothing comes meanwhile stands alone.
+    /// Waits for keys: at a terminal for a moment, or to the next tick. An ESC behind which nothing comes meanwhile stands alone.
     fn wait(&mut self) -> Result<(), Cause> {
         self.keep_in_time();
         self.look_at_terminal();
+        if !self.is_typed {
+            self.timing.stop();
+        }
         if !self.read()? {
-            thread::sleep(self.rt, Duration::from_millis(PAUSE_MS));
+            thread::sleep(self.rt, self.timing.nap(self.rt));
             if !self.read()? {
                 self.console.paused();
             }
@@ -215,13 +317,47 @@ impl<L: Ledger> Host<'_, L> {
         match self.input.read(&mut bytes) {
             Ok(0) if self.is_typed => return Ok(false),
             Ok(0) => self.console.closed(),
-            Ok(count) => self.console.keys(&bytes[..count])?,
+            Ok(count) if !self.is_typed => self.console.keys(&bytes[..count])?,
+            Ok(count) if self.is_running => self.press(&bytes[..count])?,
+            Ok(count) => self.type_line(&bytes[..count])?,
             Err(_) => {
                 self.has_read_fault = true;
                 self.close();
             }
         }
         Ok(true)
+    }
+
+    /// Gives keys to the machine. A byte that its terminal has no key for rings.
+    fn press(&mut self, bytes: &[u8]) -> Result<(), Cause> {
+        let sent = sent_of(self.rt.alloc(), self.bits, bytes)?;
+        self.console.keys(sent.as_slice())?;
+        if sent.len() < bytes.len() {
+            let done = self.screen.write(self.rt.alloc(), BELL);
+            self.take_written(done)?;
+        }
+        Ok(())
+    }
+
+    /// Gives keys to the console. Ctrl-Z asks the launcher for the shell, where there is one.
+    fn type_line(&mut self, bytes: &[u8]) -> Result<(), Cause> {
+        for byte in bytes {
+            if *byte != SUSPEND || !self.suspend() {
+                self.console.keys(&[*byte])?;
+            }
+        }
+        Ok(())
+    }
+
+    /// Asks the launcher to give the terminal to the shell: whether it is asked.
+    fn suspend(&self) -> bool {
+        let Some(asks) = &self.asks else {
+            return false;
+        };
+        match OpenOptions::new().write(true).open(self.rt, asks.as_str()) {
+            Ok(mut file) => file.write_all(ASKS).is_ok(),
+            Err(_) => false,
+        }
     }
 
     /// No key can be read any more.

@@ -17,6 +17,7 @@ mod past;
 mod remark;
 mod rescue;
 mod settings;
+mod timing;
 mod window;
 
 use crate::ending::{Cause, ending};
@@ -27,6 +28,7 @@ use crate::notice::say;
 use crate::past::open_past;
 use crate::rescue::Rescues;
 use crate::settings::{Launch, settings};
+use crate::timing::Timing;
 use p11_console::{Console, Manner, Settings};
 use p11_files::FileStore;
 use p11_panel::Panel;
@@ -107,11 +109,17 @@ fn hold<L: Ledger>(rt: &HostRuntime, launch: &Launch<'_>, blank: Blank) -> Resul
         has_write_fault: false,
         screen: Outlet::new(rt.stdout(), launch.is_raw),
         errors: Outlet::new(rt.stderr(), launch.is_raw),
+        bits: launch.bits,
+        is_machines: false,
+        has_run: false,
+        is_running: false,
+        timing: Timing::new(launch),
         files: Files::new(rt, store, launch.script),
         journal: Journal::open(rt, launch)?,
         top: launch.files,
         past,
         told: env::var(rt, "P11_SIZE").ok(),
+        asks: env::var(rt, "P11_ASKS").ok(),
         parent: parent_id(rt.process()),
         returns: 0,
         looked: Duration::ZERO,

@@ -3,7 +3,9 @@ use crate::ending::Cause;
 use clap::builder::ValueParser;
 use clap::error::ErrorKind;
 use clap::{Arg, ArgAction, ArgMatches, Command, Error};
+use p11_host::Hertz;
 use p11_panel::{Config, MOST_TURNS};
+use p11_shown::Bits;
 use std::alloc::{AllocError, Global};
 
 /// The sizes of the machine, and how the dialogue is held.
@@ -34,6 +36,12 @@ pub(crate) struct Launch<'a> {
     pub(crate) autosave: u32,
     /// Whether all that is typed passes to the terminal.
     pub(crate) is_raw: bool,
+    /// How many bits the machine's terminal has.
+    pub(crate) bits: Bits,
+    /// How often the line clock ticks, by the host's clock.
+    pub(crate) hertz: Option<Hertz>,
+    /// The most turns of a second.
+    pub(crate) speed: Option<u32>,
     pub(crate) script: Option<&'a str>,
 }
 
@@ -47,9 +55,14 @@ const LINES: u32 = 1024;
 /// So many turns take some 50 ms.
 const SLICE: u32 = 1_000_000;
 
+/// The fewest turns of a second that may be asked for.
+const LEAST_SPEED: u32 = 1_000;
+
 /// What an option takes.
 enum Value {
     Nothing,
+    /// One of the words that the help shows.
+    Word(&'static str),
     /// A number, which the help shows by this letter.
     Number(&'static str),
     /// The name of a file.
@@ -74,7 +87,7 @@ struct Choice {
 }
 
 /// The options, in the order in which the help shows them.
-static CHOICES: [Choice; 12] = [
+static CHOICES: [Choice; 15] = [
     Choice {
         name: "memory",
         value: Value::Number("K"),
@@ -130,6 +143,24 @@ static CHOICES: [Choice; 12] = [
         help: "Write what the machine types as it is, also what a terminal acts on",
     },
     Choice {
+        name: "bits",
+        value: Value::Word("7|8"),
+        beside: Beside::Any,
+        help: "Bits of the machine's terminal; 7: parity isn't shown, a key above 177 rings [default: 7, with --raw 8]",
+    },
+    Choice {
+        name: "hz",
+        value: Value::Word("60|50|off"),
+        beside: Beside::Never("batch"),
+        help: "Ticks of the line clock in a second of the host's clock [default: off; of --talk PACK 60]",
+    },
+    Choice {
+        name: "speed",
+        value: Value::Number("N"),
+        beside: Beside::Never("batch"),
+        help: "Turns in a second at most: 1000 to 100000000; an 11/40 has about 400000",
+    },
+    Choice {
         name: "batch",
         value: Value::Nothing,
         beside: Beside::Needs("SCRIPT"),
@@ -158,6 +189,7 @@ impl Choice {
             Value::Number(letter) => arg
                 .value_name(letter)
                 .value_parser(ValueParser::unsigned(0, 4_294_967_295)),
+            Value::Word(words) => arg.value_name(words),
             Value::File => arg.value_name("FILE"),
             Value::Folder => arg.value_name("FOLDER"),
         };
@@ -215,6 +247,37 @@ fn number_or(text: Option<&str>, other: u32) -> Result<u32, Cause> {
     }
 }
 
+/// The bits that a text says. What isn't to be cut for a terminal has eight.
+fn bits_of(text: Option<&str>, is_raw: bool) -> Result<Bits, Cause> {
+    match text {
+        None if is_raw => Ok(Bits::Eight),
+        None | Some("7") => Ok(Bits::Seven),
+        Some("8") => Ok(Bits::Eight),
+        Some(_) => Err(Cause::BadBits),
+    }
+}
+
+/// The ticks of a second that a text says.
+fn hertz_of(text: Option<&str>) -> Result<Option<Hertz>, Cause> {
+    match text {
+        None | Some("off") => Ok(None),
+        Some("50") => Ok(Some(Hertz::Fifty)),
+        Some("60") => Ok(Some(Hertz::Sixty)),
+        Some(_) => Err(Cause::BadHertz),
+    }
+}
+
+/// The most turns of a second that a text says.
+fn speed_of(text: Option<&str>) -> Result<Option<u32>, Cause> {
+    let Some(text) = text else {
+        return Ok(None);
+    };
+    match text.parse::<u32>() {
+        Ok(speed) if speed >= LEAST_SPEED && speed <= MOST_TURNS => Ok(Some(speed)),
+        _ => Err(Cause::BadSpeed),
+    }
+}
+
 /// Reads the words of a command line, of which the first is the program's name.
 pub(crate) fn settings<'a>(alloc: Global, words: &'a [String]) -> Result<Launch<'a>, Cause> {
     let matches = match matches(alloc, words) {
@@ -225,6 +288,10 @@ pub(crate) fn settings<'a>(alloc: Global, words: &'a [String]) -> Result<Launch<
     let lines = number_or(matches.get_str("lines"), LINES)?;
     let slice = number_or(matches.get_str("slice"), SLICE)?;
     let autosave = number_or(matches.get_str("autosave"), 0)?;
+    let is_raw = matches.get_flag("raw");
+    let bits = bits_of(matches.get_str("bits"), is_raw)?;
+    let hertz = hertz_of(matches.get_str("hz"))?;
+    let speed = speed_of(matches.get_str("speed"))?;
     if slice == 0 || slice > MOST_TURNS {
         return Err(Cause::BadSlice);
     }
@@ -244,7 +311,10 @@ pub(crate) fn settings<'a>(alloc: Global, words: &'a [String]) -> Result<Launch<
         is_strict: matches.get_flag("strict"),
         is_saveless: matches.get_flag("no-save"),
         autosave,
-        is_raw: matches.get_flag("raw"),
+        is_raw,
+        bits,
+        hertz,
+        speed,
         script: matches.get_str("SCRIPT"),
     })
 }
