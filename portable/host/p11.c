@@ -133,10 +133,18 @@ static int play(int script) {
     return length == 0 || do_line(line, length) ? 0 : fail(1, "write fault");
 }
 
+/* Whether the last word names a session that is packed in one file, which as-packed unpacks and gives to this program. */
+static int is_packed(int argc, char **argv) {
+    size_t length = argc > 1 ? strlen(argv[argc - 1]) : 0;
+    return length > 5 && strcmp(argv[argc - 1] + length - 5, ".p11z") == 0;
+}
+
 int main(int argc, char **argv) {
     static const uint8_t none[1];
     struct choices choices;
-    int script, status = read_options(&PROGRAM, argc, argv, &choices);
+    int script, status;
+    if (is_packed(argc, argv)) return run_beside("as-packed", argc, argv), fail(1, "as-packed isn't beside the program");
+    status = read_options(&PROGRAM, argc, argv, &choices);
     if (status >= 0) return status;
     ignore_limits();
     is_saveless = choices.values[NO_SAVE] != NULL;

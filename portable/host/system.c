@@ -41,6 +41,20 @@ int is_text(const char *word) {
     return 1;
 }
 
+void run_beside(const char *script, int count, char **words) {
+    char program[PATH_MAX], path[PATH_MAX + 32], **given = calloc((size_t)count + 2, sizeof *given);
+    if (!given) return;
+    memcpy(given + 1, words, (size_t)count * sizeof *given);
+    given[0] = (char *)script;
+    if (strchr(words[0], '/') && realpath(words[0], program)) {
+        snprintf(path, sizeof path, "%.*s%s", (int)(strrchr(program, '/') - program + 1), program, script);
+        given[0] = path;
+        given[1] = program;
+    }
+    execvp(given[0], given);
+    free(given);
+}
+
 void ignore_limits(void) {
     signal(SIGXFSZ, SIG_IGN);
     signal(SIGPIPE, SIG_IGN);

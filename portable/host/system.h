@@ -9,6 +9,9 @@
 /* Whether a word of the command line is UTF-8. */
 int is_text(const char *word);
 
+/* Runs a script that lies beside the program on the program and its words; returns where that can't be done. */
+void run_beside(const char *script, int count, char **words);
+
 /* From then on names are those of files below this folder, and no others may be had. 0: it isn't there. */
 int confine(const char *folder);
 

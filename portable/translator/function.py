@@ -7,10 +7,12 @@ from dataclasses import dataclass, field
 from .constants import constant, words_of
 from .instructions import Instructions
 from .layout import held
-from .text import Unknown, Words
+from .text import POINTER, Int, Unknown, Words
 
 # The longest expression that is folded into its use.
 LONGEST_FOLDED = 160
+# An address that is a constant number of bytes behind another one.
+FIELD = re.compile(r'(?P<name>%\S+) = getelementptr (?P<inside>inbounds )?(?:nusw )?(?:nuw )?i8 , ptr (?P<base>%\S+) , i64 (?P<count>-?\d+)')
 
 
 @dataclass
@@ -97,6 +99,7 @@ class Function(Instructions):
         self.blocks = {}
         self.read_blocks(lines[1:-1])
         self.order = list(self.blocks.values())
+        self.find_fields()
         self.count_uses()
 
     def read_blocks(self, lines):
@@ -122,12 +125,22 @@ class Function(Instructions):
             else:
                 block.code.append(words)
 
+    def find_fields(self):
+        """The values that are an address a constant number of bytes behind another one: each is written out wherever it is used, as a
+        compiler finds the place of a field cheapest. Held in variables, hundreds of them are kept on the stack."""
+        self.fields = {}
+        for block in self.order:
+            for words in block.code:
+                match = FIELD.fullmatch(" ".join(words.words))
+                if match:
+                    self.fields[match["name"]] = match["base"], bool(match["inside"]), int(match["count"])
+
     def count_uses(self):
         """How often each value is used, and in which block, if it is one: a phi uses it in none. What is assumed isn't used."""
         self.uses, self.used_in = Counter(), {}
         for block in self.order:
             for words in block.code:
-                if "@llvm.assume" in words.words:
+                if "@llvm.assume" in words.words or words.peek() in self.fields and words.peek(1) == "=":
                     continue
                 for word in words.words[1:] if words.peek(1) == "=" else words.words:
                     self.note_use(word, block)
@@ -137,6 +150,8 @@ class Function(Instructions):
                         self.note_use(word, None)
 
     def note_use(self, word, block):
+        while word in self.fields:
+            word = self.fields[word][0]
         if word.startswith("%"):
             self.uses[word] += 1
             self.used_in.setdefault(word, set()).add(block.label if block else None)
@@ -155,7 +170,27 @@ class Function(Instructions):
         if not word.startswith("%"):
             return constant(words, type_, self.names)
         words.next()
-        return self.folded[word] if word in self.folded else self.variable(word, type_)
+        return self.named(word, type_)
+
+    def named(self, name, type_):
+        """The text of a value that has a name."""
+        if name in self.fields:
+            base, is_inside, count = self.fields[name]
+            return self.moved(self.named(base, type_), Int(64), str(count), 1, is_inside)
+        return self.folded[name] if name in self.folded else self.variable(name, type_)
+
+    def place(self, words):
+        """The text of the address of a load or a store. Something lies there, so it is inside of what it begins at."""
+        words.attributes()
+        words.need("ptr")
+        words.attributes()
+        name, count = words.peek(), 0
+        if name not in self.fields:
+            return self.value(words, POINTER)
+        words.next()
+        while name in self.fields:
+            name, count = self.fields[name][0], count + self.fields[name][2]
+        return f"({self.named(name, POINTER)}{count:+})"
 
     def typed(self, words):
         """The type and the text of an operand."""
@@ -168,7 +203,7 @@ class Function(Instructions):
 
     def give(self, name, type_, text, folds=True):
         """A value gets its name: in a variable, or where it is used."""
-        if self.uses[name] == 0:
+        if self.uses[name] == 0 or name in self.fields:
             return
         if folds and self.is_folded(name, text):
             self.folded[name] = text

@@ -194,7 +194,7 @@ class Instructions:
     def do_load(self, name, words):
         type_ = words.type()
         words.need(",")
-        _, place = self.typed(words)
+        place = self.place(words)
         if isinstance(type_, Struct):
             variable = self.variable(name, type_)
             for number, part in enumerate(type_.parts):
@@ -205,7 +205,7 @@ class Instructions:
     def do_store(self, _, words):
         type_, text = self.typed(words)
         words.need(",")
-        _, place = self.typed(words)
+        place = self.place(words)
         if isinstance(type_, Struct):
             for number, part in enumerate(type_.parts):
                 self.emit(stores(part, f"{place}+{offset(type_, number)}", f"{text}.m{number}"))
