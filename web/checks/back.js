@@ -7,7 +7,7 @@ const { sleep } = require('./page.js');
 const { play, stateOf, STATE } = require('./compare.js');
 const { settle, kept } = require('./evening.js');
 
-const LINES = 100, TURNS = 50000000, MOST_MS = 2000, TRIES = 3, KILLS = 4, MOST_WAIT = 2500, LATE_MS = 2500, CUT = 5;
+const LINES = 100, TURNS = 50000000, ONE_RUN = 90000000, MOST_MS = 2000, TRIES = 3, KILLS = 4, RELOADS = 8, MOST_LATE = 60, MOST_WAIT = 2500, LATE_MS = 2500, CUT = 5;
 const COUNTS = 'deposit 1000 5267 1000 5200 10021 20127 20000 103402 12701 4000 766\rset 1 4000\rstart 1000\r';
 const record = (page) => page.eval("app.link.ask('record')");
 const turnsOf = (page) => page.eval("app.link.ask('regs').then((it) => it.turns)");
@@ -80,7 +80,7 @@ async function late({ page, say }) {
   await page.eval('app.desk.talk()');
   const grown = (lines) => page.until(`app.store.kept(app.store.session.id).then(({ lines, pages }) => pages !== null && lines.length >= pages.head.state.lines + ${lines})`);
   await grown(0);
-  await page.eval("app.store.kept(app.store.session.id).then(({ pages }) => app.link.ask('kept', { machine: pages.head.machine, isKept: false }))");
+  await page.until("app.store.kept(app.store.session.id).then(({ pages }) => pages !== null && app.link.ask('kept', { machine: pages.head.machine, isKept: false }).then(() => true))");
   await grown(20);
   await page.eval('app.desk.halt()');
   const state = await stateOf(page), was = await record(page), id = await page.eval('app.store.session.id');
@@ -135,7 +135,16 @@ async function scripted({ page, url, say }) {
   await keptWhole(page);
   const kept = await page.eval("app.store.kept(app.store.session.id).then(({ lines }) => lines.map((line) => line + '\\n').join(''))");
   assert.equal(kept, wanted, 'the record that is kept is another');
-  say(`a script of ${2 * LINES} lines goes on where the page was closed in it`);
+  // One whose only line is a long run: what is kept of its turns is more than what the memory's pages have.
+  await page.eval('app.sessions.fresh(28)');
+  for (const line of COUNTS.trim().split('\r')) await attempt(page, line);
+  await page.eval(`(async () => { await app.link.ask('put', { name: 'one', bytes: new TextEncoder().encode('continue ${ONE_RUN}\\n') }); app.desk.type('do one'); })()`);
+  await page.until('app.store.kept(app.store.session.id).then(({ session, pages }) => pages?.head.state.own.isScripted && session.turns > pages.head.state.own.turns)');
+  await page.reopen(url);
+  await isBack(page);
+  assert.equal(await page.eval("document.querySelector('#note').textContent"), 'The script that was under way is done again from the last second on.');
+  await page.until(`app.view.text().includes('STOP turns ${ONE_RUN} ')`);
+  say(`a script of ${2 * LINES} lines goes on where the page was closed in it, as one does within its only run`);
 }
 
 // The browser is killed at random moments of a run in which keys are pressed and a pack is written to: what was kept is there, and the
@@ -177,6 +186,29 @@ async function kills({ command, url, native, say, count = KILLS }) {
   say(`the browser was killed ${count} times: nothing that was kept is lost, ${revived} times the session was back by its pages, and ./p11 comes to the same`);
 }
 
+// The page is loaded again at some moment after the text of OK shows: the line that it was said of is there.
+async function reloads({ page, url, say, count = RELOADS }) {
+  await page.goTo(url);
+  await page.eval('app.sessions.fresh(28)');
+  for (let n = 1; n <= count; n++) {
+    const line = `deposit 5000 ${n.toString(8)}`, late = n % 2 === 0 ? 0 : Math.floor(Math.random() * MOST_LATE);
+    await page.eval(`(async () => {
+      delete document.documentElement.dataset.ready;
+      app.desk.feed(bytesIn(${JSON.stringify(`${line}\r`)}));
+      while (!app.view.text().includes(${JSON.stringify(`p11> ${line}\nOK\n`)})) {
+        await new Promise((done) => { const { port1, port2 } = new MessageChannel(); port1.onmessage = done; port2.postMessage(0); });
+      }
+      setTimeout(() => location.reload(), ${late});
+      function bytesIn(text) { return [...text].map((c) => c.charCodeAt(0)); }
+    })()`);
+    await page.until("document.documentElement.dataset.ready === 'yes' && !app.desk.isHeld && app.link.asked.size === 0");
+    const lines = (await record(page)).trimEnd().split('\n');
+    assert.equal(lines.at(-1), line, `loaded again ${late} ms after the ${n}th OK`);
+    assert.equal(lines.length, n, 'a line is there twice, or lacks');
+  }
+  say(`${count} times the page was loaded again at a moment after OK, and the line was there`);
+}
+
 // Cuts off the end of the last record of Chromium's log, if it writes one.
 function cutLog(home) {
   const kept = path.join(home, 'Default/IndexedDB'), folder = fs.readdirSync(kept).find((it) => it.endsWith('.leveldb'));
@@ -213,4 +245,4 @@ async function torn({ command, url, native, say }) {
   say('half a record that a browser left which was killed costs that record alone, also at the second opening');
 }
 
-module.exports = { back, late, stopped, scripted, kills, torn, isBack, keptWhole, COUNTS, MOST_MS };
+module.exports = { back, late, stopped, scripted, reloads, kills, torn, isBack, keptWhole, COUNTS, MOST_MS };

@@ -17,7 +17,7 @@ async function badFiles({ page, native: { folder }, say }) {
   const before = await page.eval("app.link.ask('record')");
   await drop('picture.png', Buffer.from([0x89, 0x50, 0x4e, 0x47, 1, 2]), 'picture.png is a PNG picture, and no pack, tape or script');
   await drop('disk.gz', Buffer.from([0x1f, 0x8b, 8, 0]), 'disk.gz is a gzip archive: unpack it first');
-  await drop('large.dsk', Buffer.alloc(2494465, 7), 'large.dsk has 2,494,465 bytes, and a pack of an RK05 has 2,494,464');
+  await drop('large', Buffer.alloc(2494465, 7), 'large has 2,494,465 bytes, and a pack of an RK05 has 2,494,464');
   await drop('none.dsk', Buffer.alloc(0), 'none.dsk has no bytes');
   await drop('diag.ptap', Buffer.from([0, 1, 0, 8, 0, 0, 2, 5, 6, 7]), 'the tape is wrong at byte 9: the bytes of the block don\'t sum to 0');
   await drop('page.html', Buffer.from('<!doctype html>\n'), 'page.html is a text, and no script: "<!doctype html>" is no line of the console.');

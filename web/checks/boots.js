@@ -14,7 +14,7 @@ function linesOf(file) {
 async function boots({ page, examples, say }) {
   const shown = linesOf(path.join(examples, '../tests/boots.shown')), list = linesOf(path.join(examples, 'boots.txt'));
   const buttons = await page.eval("[...document.querySelectorAll('[data-boot]')].map((it) => [it.dataset.boot, it.textContent])");
-  assert.deepEqual(buttons, list.map(([name, , , title]) => [name, title]), 'the buttons are others than the list has');
+  assert.deepEqual(buttons, list.map(([name, , , title], at) => [name, at === 0 ? `Start here: ${title}` : title]), 'the buttons are others than the list has');
   for (const [at, [name, where, , , first, about]] of list.entries()) {
     const [, begins, answer] = shown[at], count = (text) => `app.view.text().split(${JSON.stringify(text)}).length`;
     const was = await page.eval(count(begins));

@@ -13,10 +13,11 @@ const { spawnSync } = require('child_process');
 process.env.UNTIL ??= '15000';
 const { launch } = require('./browser.js');
 const { serve } = require('./serve.js');
-const front = require('./front.js'), shown = require('./shown.js');
+const front = require('./front.js'), shown = require('./shown.js'), { sight, letters } = require('./seen.js'), { untouched } = require('./work.js');
+const { large } = require('./large.js'), { transcript, sent, pastes } = require('./wanted.js');
 
 const WEB = path.dirname(__dirname), PARTS = ['page', 'engine', 'checks'];
-const PAGES = { ...front, ...shown };
+const PAGES = { ...front, ...shown, sight, letters, untouched, large, transcript, sent, pastes };
 const HEAD = /^# (\w+): \S/;
 
 class Bad extends Error {}
@@ -47,8 +48,9 @@ class Copy {
     }
     const server = await serve({ '/': this.site, '/page/': path.join(this.top, 'page'), '/engine/': path.join(this.top, 'engine') });
     try {
-      await page.reopen(`http://127.0.0.1:${server.address().port}/`).catch((error) => { throw new Bad(`the page doesn't open: ${error.message}`); });
-      return await PAGES[name]({ page, say: () => {} }).then(() => '', (error) => error.message.split('\n')[0]);
+      const url = `http://127.0.0.1:${server.address().port}/`;
+      await page.reopen(url).catch((error) => { throw new Bad(`the page doesn't open: ${error.message}`); });
+      return await PAGES[name]({ page, url, native: { folder: this.top }, say: () => {} }).then(() => '', (error) => error.message.split('\n')[0]);
     } finally {
       server.close();
       server.closeAllConnections();

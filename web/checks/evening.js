@@ -97,9 +97,8 @@ async function evening({ page, url, native, examples, say }) {
   const pack = path.join(folder, 'my pack.dsk');
   fs.copyFileSync(path.join(examples, 'boot.pack'), pack);
   await page.drop(pack, 'li[data-drive="1"]');
-  await page.until("!document.querySelector('#offer').hidden");
-  await page.click('#offer button');
   await shows('mount 1 my_pack.dsk rw');
+  await page.until("document.querySelector('#note').textContent.includes('is mounted on drive 1: it has 50 bytes, and the other 2,494,414 read as zeros')");
   await page.click('#screen');
   await page.type('deposit 2000 12345 54321\rdeposit 1000 777\rstart 1000\rdeposit 777410 2000\rdeposit 777406 177776\r'
     + 'deposit 777412 20005\rdeposit 777404 3\rstep 2000\r');

@@ -2,7 +2,7 @@
 // lever; and what the six keys do. Numbers are set at the switches by octal digits, and the keys are pressed by the mouse.
 'use strict';
 const assert = require('assert');
-const { settle } = require('./evening.js');
+const { settle, kept } = require('./evening.js');
 
 // What is seen: rows of lamps as numbers of 0 to 1, levers as bits, the flags with what stands beside each, and all their names.
 const FRONT = `(() => {
@@ -32,6 +32,7 @@ class Front {
   static async of(page, ...lines) {
     const front = new Front(page);
     await page.eval('app.sessions.fresh(28)');
+    await page.until('app.showing === null');
     await page.eval('app.panel.isEnabled || app.panel.toggle()');
     for (const line of lines) await front.does(line);
     return front;
@@ -218,4 +219,27 @@ async function levers({ page, say }) {
   say('the arrows go from lever to lever');
 }
 
-module.exports = { lamps, steps, flags, switched, levers, Front };
+// Levers and HALT are the machine's: those of a new one, behind a line that sets the register, when the page is opened again, and where a
+// machine is booted with HALT down.
+async function followed({ page, say }) {
+  const front = await Front.of(page), are = (number) => page.until(`app.panel.switches === ${number} && document.querySelector('#switches').ariaLabel === 'Switches ${octal(number)}'`);
+  await front.set(0o420001);
+  await page.eval('app.sessions.fresh(28)');
+  await are(0);
+  await page.click('#screen');
+  await page.type('switches 12345\r');
+  await are(0o12345);
+  await kept(page);
+  await page.reopen(await page.eval('location.href'));
+  await page.until('app.back && !app.desk.isHeld');
+  await are(0o12345);
+  await front.press('halt');
+  assert.equal((await front.seen()).isHalt, 'true');
+  await page.click('[data-boot=echo]');
+  await page.until('app.desk.isTalk');
+  assert.equal((await front.seen()).isHalt, 'false', 'the machine runs with HALT down');
+  await page.eval('app.desk.halt()');
+  say('levers and HALT are those of the machine');
+}
+
+module.exports = { lamps, steps, flags, switched, levers, followed, Front };

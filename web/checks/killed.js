@@ -1,7 +1,9 @@
-// node killed.js PAGE P11 KILLS COMMAND..: each of the browsers (COMMAND) is killed so often (kills in back.js). Exit status 1: something is lost.
+// node killed.js PAGE P11 TIMES COMMAND..: in each of the browsers (COMMAND) the page is loaded again so often behind OK, and so often the
+// browser is killed (reloads and kills in back.js). Exit status 1: something is lost.
 'use strict';
 const fs = require('fs'), os = require('os'), path = require('path');
-const { kills } = require('./back.js');
+const { open } = require('./browser.js');
+const { kills, reloads } = require('./back.js');
 const { serve } = require('./serve.js');
 
 async function run([made, p11, count, ...commands]) {
@@ -9,7 +11,9 @@ async function run([made, p11, count, ...commands]) {
   const url = `http://127.0.0.1:${server.address().port}/`;
   try {
     for (const command of commands) {
-      await kills({ command, url, native: { p11: path.resolve(p11), folder }, count: +count, say: (text) => console.log(`soak/page: ${command}: ${text}`) });
+      const say = (text) => console.log(`soak/page: ${command}: ${text}`), page = await open(url, { downloads: folder, command });
+      try { await reloads({ page, url, count: +count, say }); } finally { await page.close(); }
+      await kills({ command, url, native: { p11: path.resolve(p11), folder }, count: +count, say });
     }
   } finally {
     server.close();

@@ -9,9 +9,11 @@ const sectors = (count) => Buffer.alloc(512 * count, '\xa0\x00\x17\x08', 'latin1
 // Name, bytes, and what it is: a kind, a kind with what is asked, or what is said.
 const casesOf = (examples, tape, node) => [
   ['v6.rk05', sectors(4872), 'pack'], ['v6', sectors(4872), 'pack'], ['short.dsk', sectors(3), 'pack'], ['zeros.rk05', Buffer.alloc(2494464), 'pack'],
-  ['evening.pack', examples('evening.pack'), 'pack'], ['boot.pack', examples('boot.pack'), /boot\.pack has 50 bytes, which aren't whole sectors of 512$/],
-  ['something', sectors(3), /something has 1,536 bytes, and neither the size nor the name of a pack$/],
-  ['large.rk05', sectors(4873), /large\.rk05 has 2,494,976 bytes, and a pack of an RK05 has 2,494,464$/],
+  ['evening.pack', examples('evening.pack'), 'pack'], ['boot.pack', examples('boot.pack'), /boot\.pack has 50 bytes, which aren't whole sectors of 512\. Is it a pack\?$/],
+  ['something', sectors(3), /something has 1,536 bytes, and neither the size nor the name of a pack\. Is it a pack\?$/],
+  ['large.rk05', sectors(4873), /large\.rk05 has 2,494,976 bytes, and a pack of an RK05 has 2,494,464\. Are the first/],
+  ['large', sectors(4873), /large has 2,494,976 bytes, and a pack of an RK05 has 2,494,464$/], ['x.zip', Buffer.alloc(2494464, 'PK\x03\x04', 'latin1'), 'pack'],
+  ['image.p11', text('regs\n\0'), /image\.p11 has a NUL in its first 4,096 bytes, so it is an image and no script/],
   ['greeting.tape', tape, 'tape'], ['greeting', tape, 'tape'], ['greeting', behind([0, 0, 0], tape), 'tape'],
   ['greeting', behind([7], tape), /greeting is no paper tape for its first byte: a tape begins with zeros and 1 0$/],
   ['greeting', behind([0, 7, 9, 0], tape), /for its first 3 bytes/], ['wrong.ptap', behind([7], tape), 'tape'],

@@ -20,14 +20,14 @@ async function looks({ page, say }) {
     const wide = await page.eval('document.documentElement.scrollWidth');
     assert(wide <= width, `at ${width} pixels the page is ${wide} wide`);
     assert.deepEqual(await page.eval(SMALL), [], `at ${width} pixels these are less than ${TARGET} wide or high`);
-    assert(await page.eval(COLUMNS), `at ${width} pixels the screen shows less than 80 columns`);
+    assert.equal(await page.eval(COLUMNS), width > 500, `80 columns at ${width} pixels`);   // below that the letters would be too small
     await page.until(AT_END);
     for (const face of folder ? ['light', 'dark'] : []) {
       await page.shot(path.join(folder, `${page.product.split(' ')[0]}-${width}-${face}.png`), { width, height, face });
     }
   }
   await page.resize();
-  say(`nothing is cut off, no target is below ${TARGET} pixels and 80 columns are seen at ${SIZES.map(([width]) => width).join(', ')} pixels`);
+  say(`nothing is cut off, and no target is below ${TARGET} pixels at ${SIZES.map(([width]) => width).join(', ')} pixels; 80 columns are seen from the second on`);
 }
 
 // Each control and lamp, as a screen reader has it, has a name.

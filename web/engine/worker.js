@@ -33,6 +33,8 @@ class Engine {
     this.saying = null;        // lines of the page that are typed, and what is said meanwhile
     this.later = [];           // what is to be done behind them
     this.isMuted = false;      // whether what is said isn't shown
+    this.unsaid = '';          // what is said once the record has been told
+    this.folds = null;         // of a script that boots, how many lines were answered OK and not told yet: { name, count }
     this.typed = null;         // what was typed while a record is played again
     this.waiters = [];         // who waits until keys are wanted
     this.restMark = '';        // what there was when they were
@@ -53,7 +55,7 @@ class Engine {
   begin(host, pages, lines) {
     const kept = this.sum ? pages : null;
     this.giveUp();
-    Object.assign(this, { host, pages: kept, isLost: false, isHeld: true, isWanting: false, isKeeping: false, isMuted: false });
+    Object.assign(this, { host, pages: kept, isLost: false, isHeld: true, isWanting: false, isKeeping: false, isMuted: false, unsaid: '' });
     host.onscreen = (bytes, isTyped) => this.shows(bytes, isTyped);
     host.onrest = () => this.rests();
     host.onpast = (line) => this.post({ event: 'past', line });
@@ -94,6 +96,7 @@ class Engine {
       const most = this.allowed(now);
       if (most === 0) { this.wakeIn(4); this.shown(now); return; }
       const turns = Math.min(this.slice, most), was = host.turns, want = host.step(turns), made = host.turns - was;
+      this.tellSaid();
       if (made === turns) this.slice = nextSlice(turns, performance.now() - now);
       if (made > 0) {
         this.at.budget = now;
@@ -129,10 +132,38 @@ class Engine {
 
   shows(bytes, isTyped) {
     if (this.typed) { if (isTyped) this.typed.push(bytes); return; }
-    if (isTyped) { this.post({ event: 'typed', bytes }); return; }
-    const text = textOf(bytes);
+    if (isTyped) {
+      this.unfold();
+      this.tellSaid();
+      this.post({ event: 'typed', bytes });
+      return;
+    }
+    const text = this.folded(textOf(bytes));
     if (this.saying) this.saying.text += text;
-    if (!this.isMuted) this.post({ event: 'said', text });
+    if (!this.isMuted) this.unsaid += text;
+  }
+
+  // The answers OK to the lines of a script that boots are told in one line.
+  folded(text) {
+    const { folds } = this;
+    if (!folds) return text;
+    const rest = text.replace(/^OK\n/gm, () => { folds.count++; return ''; });
+    if (rest !== '') this.unfold();
+    return rest;
+  }
+
+  unfold() {
+    if (!this.folds?.count) return;
+    this.unsaid += `(${this.folds.name}: ${this.folds.count === 1 ? 'one line' : `${this.folds.count} lines, each`} OK)\n`;
+    this.folds.count = 0;
+  }
+
+  // What is said comes behind the lines that it is said of.
+  tellSaid() {
+    if (this.unsaid === '') return;
+    if (this.host.record.length > this.sent.lines) this.journal();
+    this.post({ event: 'said', text: this.unsaid });
+    this.unsaid = '';
   }
 
   tellRun() {
@@ -147,6 +178,7 @@ class Engine {
     if (this.host.queue.length > 0) return;
     if (this.host.isRunning !== this.isRunning) this.tellRun();
     this.release();
+    this.folds = null;
     if (this.saying) { if (isQuestion(this.saying.text)) this.asks(); else this.nextLine(); }
     else if (!this.typed) this.isMuted = false;
     const mark = this.mark();
@@ -173,7 +205,7 @@ class Engine {
     const { saying } = this, { text } = saying;
     if (saying.isAsked) return;
     saying.isAsked = true;
-    if (this.isMuted) this.post({ event: 'said', text });
+    if (this.isMuted) this.unsaid += text;
     this.isMuted = false;
     this.post({ event: 'asks', text: text.slice(text.lastIndexOf('\n') + 1) });
   }
@@ -224,7 +256,7 @@ class Engine {
       saying.told = [];
       if (saying.goesOn && !/^STOP key /m.test(saying.text)) {   // the run has ended by itself
         saying.goesOn = false;
-        if (this.isMuted) this.post({ event: 'said', text: saying.text });
+        if (this.isMuted) this.unsaid += saying.text;
       }
     }
     const line = isRefused(saying.text) && saying.told.length > 0 ? undefined : saying.left.shift();
@@ -327,7 +359,8 @@ async function sha256(bytes) {
 const CALLS = {
   // A console is made and held. The one that is there ends at once, and stays until the new one takes its place in one step: between two
   // awaits anything else may be asked. Of two that are asked for at a time the last is made. Where a session goes on (kept: { lines,
-  // steps, pages }), it is put together of its pages, if they are of this module: whether it was, and how many lines of its record count.
+  // steps, pages }), it is put together of its pages, if they are of this module: whether it was, whether a script
+  // was under way then, and how many lines of its record count.
   async open(engine, { module, kwords, past, ships, script, kept }) {
     const number = ++engine.opened;
     engine.journal();
@@ -346,11 +379,12 @@ const CALLS = {
     // Lines of a file that were under way are done again by the console itself.
     const lines = revived?.isScripted ? host.record.length : kept?.lines.length ?? 0;
     engine.begin(host, pages, lines);
+    engine.folds = script === undefined ? null : { name: script, count: 0 };
     if (!kept) engine.left = null;
     else if (revived?.isScripted) engine.left = [];
     else engine.left = revived ? tailOf(kept.pages.head.state, kept.lines, kept.steps) : [...kept.lines, ...stepsOf(kept.steps)];
     engine.all = kept && [...kept.lines, ...stepsOf(kept.steps)];
-    return { isRevived: revived !== null, lines };
+    return { isRevived: revived !== null, isScripted: revived?.isScripted ?? false, lines };
   },
 
   // Does what a session that goes on has still to do: what was typed then, how many turns were made in all, and whether a run goes on.

@@ -16,6 +16,9 @@ class App {
     this.memory.value = '28';
     this.isShowing = 0;
     this.past = [];      // lines that were typed, for the history of a further machine
+    this.isOpening = true;   // whether what is done is the page's own doing
+    this.writing = null;     // while lines are written
+    this.showing = null;     // while what is said waits for that
   }
 
   // What the page or the console says, which has the codes of a VT100.
@@ -62,7 +65,8 @@ class App {
   // The names of the files that ship with the page.
   ships() { return this.boots.flatMap((it) => [it.script, ...it.files]); }
 
-  focus() { $('#keys').focus({ preventScroll: true }); }
+  // A page in a frame takes no focus from the page around it.
+  focus() { if (parent === globalThis || document.hasFocus()) $('#keys').focus({ preventScroll: true }); }
 
   async open() {
     this.controls();
@@ -75,6 +79,7 @@ class App {
       $('#refused').textContent = `The browser keeps nothing more of this session (${why}); its record can be downloaded.`;
     };
     store.onrefused(store.refused);
+    store.late?.then(() => { if (!store.isTouched) this.begin(); });
     if (store.loss !== null) this.note(`The browser has lost the sessions that were kept: ${store.loss || 'it says no more'}.`);
     store.onlost = () => this.sessions.leave('(The session goes on in another tab; here is a new machine.)');
     this.kept = new KeptList($('#kept'), this);
@@ -82,7 +87,10 @@ class App {
     listen(this);
     this.showBoots();
     await this.begin();
+    this.isOpening = false;
     this.focus();
+    onhashchange = () => this.sessions.fromLink();
+    this.sessions.fromLink();
     document.documentElement.dataset.ready = 'yes';
   }
 
@@ -90,7 +98,8 @@ class App {
   connect() {
     this.link?.worker.terminate();
     this.link = new Link(this.sources);
-    const { link } = this, desk = new Desk({ link, onerror: (error) => this.note(error.message) });
+    const { link } = this, onact = (isPersons) => { if (isPersons || !this.isOpening) this.store.touch(); };
+    const desk = new Desk({ link, onact, onerror: (error) => this.note(error.message) });
     this.desk = desk;
     this.sessions ??= new Sessions(this);
     const say = (text) => this.note(text), pick = (drive) => this.pick(drive);
@@ -98,8 +107,8 @@ class App {
     this.drives ??= new Drives($('#drives'), { say, pick });
     Object.assign(this.panel, { link, desk });
     Object.assign(this.drives, { link, desk });
-    link.on('typed', ({ bytes }) => this.typed(bytes));
-    link.on('said', ({ text }) => this.say(text));
+    link.on('typed', ({ bytes }) => this.shows(() => this.typed(bytes)));
+    link.on('said', ({ text, isOfTalk }) => this.shows(() => this.say(text), isOfTalk ? null : this.writing));
     link.on('runs', (run) => this.runs(run));
     link.on('rests', () => this.drives.show());
     link.on('wants', ({ name }) => this.sessions.find(name));
@@ -119,7 +128,7 @@ class App {
     this.store.beginLog();
     if (last && await this.sessions.reopen(last.id)) return;
     if (sessions.length > 0) this.sessions.kwords = sessions[0].kwords;
-    if (lesson) { await this.sessions.openPacked(document.title, lesson); return; }
+    if (lesson) { await this.sessions.openPacked(document.title, lesson, `lesson ${crcOf(lesson)}`); return; }
     this.say('p11: a PDP-11/40. Type help, drop a file,\nor boot something by a button above.\n');
     await this.sessions.fresh();
     if (boot) await this.sessions.boot(boot);
@@ -135,20 +144,37 @@ class App {
   // Keeps what was done, and beside the machine's memory what the screen shows.
   async keep(gained) {
     const { link } = this, { pages } = gained;
+    this.panel.follow(gained.lines);
     if (pages) pages.head.screen = this.screen.picture();
-    const isKept = await this.store.add(gained) === true;
+    const written = this.store.add(gained);
+    if (gained.lines.length > 0) this.writes(written);
+    const isKept = await written === true;
     if (pages) link.ask('kept', { machine: pages.head.machine, isKept });
+  }
+
+  // While lines are written what is said of them waits, but for a browser that doesn't answer.
+  writes(written) {
+    const here = Promise.race([written, pause(PATIENCE_MS)]).then(() => { if (this.writing === here) this.writing = null; });
+    this.writing = here;
+  }
+
+  // What is shown comes in turn, and behind what it waits for.
+  shows(act, written = null) {
+    if (!this.showing && !written) { act(); return; }
+    const here = Promise.all([this.showing, written]).then(act).finally(() => { if (this.showing === here) this.showing = null; });
+    this.showing = here;
   }
 
   typed(bytes) {
     this.screen.write(bytes);
-    this.view.speak(String.fromCharCode(...bytes.slice(-400)));
+    this.view.speak(String.fromCharCode(...bytes.slice(-400).map((byte) => byte & 0o177)));
     const replies = this.screen.takeReplies();
-    if (replies.length > 0 && this.desk.isRunning) this.desk.feed(replies);
+    if (replies.length > 0) this.desk.reply(replies);
   }
 
   runs({ isRunning, isTalk }) {
     Object.assign(this.desk, { isRunning, isTalk });
+    if (isTalk) this.panel.enable(true);   // a machine that runs isn't halted
     this.store?.note({ isTalking: isTalk });
     clearInterval(this.isShowing);
     if (isRunning) this.isShowing = setInterval(() => this.drives.show(), 1000);
@@ -161,10 +187,18 @@ class App {
     $('#speed').textContent = lamps.isRunning ? rate + (lamps.keys > 0 ? `, ${lamps.keys} keys wait` : '') : '';
   }
 
+  // Faults of the page, if there were any, can be given to whoever mends it.
+  showFaults() {
+    const box = $('#faults'), report = async () => Faults.report(await this.link.ask('record').catch(() => ''));
+    const act = async () => download('report.txt', new TextEncoder().encode(await report()));
+    box.replaceChildren(`Faults of the page itself: ${Faults.list.length}. `, buttonOf('Download a report', 'Download a report of the faults', act));
+    box.hidden = false;
+  }
+
   showBoots() {
-    $('#boots').replaceChildren(...this.boots.map(({ name, title, about, first }) => {
+    $('#boots').replaceChildren(...this.boots.map(({ name, title, about, first }, at) => {
       const button = document.createElement('button');
-      Object.assign(button, { textContent: title, title: `${about} Type first: ${first}` });
+      Object.assign(button, { textContent: at === 0 ? `Start here: ${title}` : title, title: `${about} Type first: ${first}` });
       button.dataset.boot = name;
       button.onclick = () => this.sessions.boot(name);
       return button;
@@ -194,8 +228,10 @@ class App {
     $('#page').onclick = async () => download('lesson.html', new TextEncoder().encode(pageWith(PAGE, await this.sessions.packed())));
     $('#page').hidden = PAGE === null;
     $('#forget').onclick = () => this.kept.forgetAll();
-    $('#theme').onclick = () => setFace(nextFace());
-    setFace(keptFace());
+    $('#transcript').onclick = () => download('transcript.txt', new TextEncoder().encode(`${this.view.text().trimEnd()}\n`));
+    $('#link').onclick = () => this.sessions.toLink();
+    sights(this);
+    Faults.show = () => this.showFaults();
     $('#proved').textContent = globalThis.P11_PROVED;
     if (lessonIn()) $('#checked').after(' The program that it opens with was put in later.');
   }
@@ -208,17 +244,6 @@ class App {
     $('#screen').classList.add('bell');
     setTimeout(() => $('#screen').classList.remove('bell'), 150);
   }
-}
-
-// -- the face: as the system has it, or the one that was chosen
-function keptFace() { try { return localStorage.getItem('face') ?? ''; } catch { return ''; } }
-function nextFace() {
-  const face = document.documentElement.dataset.theme ?? (matchMedia('(prefers-color-scheme: dark)').matches ? 'dark' : 'light');
-  return face === 'dark' ? 'light' : 'dark';
-}
-function setFace(face) {
-  if (face) document.documentElement.dataset.theme = face;
-  try { if (face) localStorage.setItem('face', face); } catch { /* the browser keeps nothing: then the face is not kept */ }
 }
 
 globalThis.app = new App();

@@ -4,15 +4,20 @@
 'use strict';
 
 class Desk {
-  constructor({ link, onerror }) {
-    Object.assign(this, { link, onerror, waiting: [], isHeld: true, isRunning: false, isTalk: false });
+  // onact(isPersons): something is done, by keys of a person, or by lines, which the page has too when it opens.
+  constructor({ link, onerror, onact }) {
+    Object.assign(this, { link, onerror, onact, waiting: [], isHeld: true, isRunning: false, isTalk: false });
   }
 
   // Keys, in the order in which they are pressed. They wait while it is held, as while a session is made ready.
   feed(codes) {
-    if (this.isHeld) this.waiting.push(...codes);
+    this.onact(true);
+    if (this.isHeld) this.waiting = this.waiting.concat(codes);
     else this.ask('keys', { bytes: codes });
   }
+
+  // What the terminal answers to the machine.
+  reply(codes) { if (this.isRunning) this.ask('keys', { bytes: codes }); }
 
   // Those that wait for the session before are dropped.
   hold(isHeld) {
@@ -27,6 +32,7 @@ class Desk {
   // Types lines, up to one that is refused: what the last was answered, and why it was refused. A talk goes on behind them; a run that has a
   // count ends before them. Silently they aren't shown.
   async commands(lines, isSilent = false) {
+    this.onact();
     const said = await this.ask('lines', { lines, isSilent }) ?? [];
     return answerIn(said.at(-1) ?? '');
   }
@@ -34,7 +40,11 @@ class Desk {
   async command(line, isSilent) { return this.commands([line], isSilent); }
 
   // Types a line that isn't waited for, as one that begins a run.
-  type(line) { return this.ask('type', { line }); }
+  type(line) {
+    this.onact();
+    return this.ask('type', { line });
+  }
+
   talk() { return this.type('talk'); }
   halt() { return this.ask('halt'); }
 }

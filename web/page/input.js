@@ -16,6 +16,23 @@ function listen(app) {
     hold(false);
   };
 
+  // Text that is typed, and text that is pasted: what has no key here is told, and pasted text waits until it is known what to do without.
+  const without = (text) => {
+    const keyless = keylessIn(text);
+    if (keyless.length > 0) app.screen.bells++;
+    return keyless.length > 0 ? `This keyboard has no ${keyless.slice(0, 8).join(' ')}` : '';
+  };
+  const typed = (text) => {
+    const told = without(text);
+    if (told) app.note(`${told}.`); else feed(keysOfText(text));
+  };
+  const pasted = async (text) => {
+    const told = without(text);
+    if (told && !await app.ask(`${told}: nothing of what was pasted is typed yet.`, 'Type the rest')) return;
+    // at the prompt the key Tab completes a word, and a tab in a text is white space
+    feed(keysOfText((app.desk.isRunning ? text : text.replaceAll('\t', ' ')).replace(KEYLESS, '')));
+  };
+
   addEventListener('keydown', (event) => {
     if (event.key === 'F6') { event.preventDefault(); nextPart(event.shiftKey ? -1 : 1); return; }
     if (!isTerminal(event.target) || event.isComposing || isBrowsers(event)) return;
@@ -29,20 +46,20 @@ function listen(app) {
   // taken back.
   keys.value = ' ';
   keys.addEventListener('compositionend', (event) => {
-    feed(keysOfText(event.data));
+    typed(event.data);
     keys.value = ' ';
   });
   keys.addEventListener('input', (event) => {
     if (event.isComposing || /Composition/.test(event.inputType)) return;
     if (event.inputType === 'deleteContentBackward') feed([127]);
-    else feed(keysOfText(event.data ?? (event.inputType === 'insertLineBreak' ? '\n' : '')));
+    else typed(event.data ?? (event.inputType === 'insertLineBreak' ? '\n' : ''));
     keys.value = ' ';
   });
 
   addEventListener('paste', (event) => {
     if (!isTerminal(event.target)) return;
     event.preventDefault();
-    feed(keysOfText(event.clipboardData.getData('text')));
+    pasted(event.clipboardData.getData('text'));
   });
 
   screen.addEventListener('mouseup', () => { if (getSelection().isCollapsed) app.focus(); });

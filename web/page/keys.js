@@ -5,12 +5,19 @@
 const NAMED = { Enter: [13], Backspace: [127], Delete: [127], Tab: [9], Escape: [27] };
 const ARROWS = { ArrowUp: 'A', ArrowDown: 'B', ArrowRight: 'C', ArrowLeft: 'D', Home: 'H', End: 'F' };
 const FUNCTIONS = { F1: 'P', F2: 'Q', F3: 'R', F4: 'S' };
+// The keypad's codes where the program asks for them (ESC =); where a VT100 has a comma, other keypads have a plus.
+const KEYPAD = {
+  Numpad0: 'p', Numpad1: 'q', Numpad2: 'r', Numpad3: 's', Numpad4: 't', Numpad5: 'u', Numpad6: 'v', Numpad7: 'w', Numpad8: 'x', Numpad9: 'y',
+  NumpadSubtract: 'm', NumpadAdd: 'l', NumpadComma: 'l', NumpadDecimal: 'n', NumpadEnter: 'M',
+};
 
 function keysOf(event, screen) {
   const { key } = event;
   if (event.altKey || event.metaKey) return null;
   if (event.ctrlKey) return event.shiftKey ? null : controlKey(key);
   if (key === 'Tab' && event.shiftKey) return null;
+  const pad = screen.keypad && KEYPAD[event.code];
+  if (pad) return codes((screen.isVt52 ? '\x1b?' : '\x1bO') + pad);
   if (NAMED[key]) return NAMED[key];
   const letter = ARROWS[key] ?? FUNCTIONS[key];
   if (letter) {
@@ -28,7 +35,8 @@ function controlKey(key) {
 
 const codes = (text) => [...text].map((c) => c.charCodeAt(0));
 
-// What is pasted: the end of a line is the key Return, and what has no key on this keyboard is left out.
-function keysOfText(text) {
-  return codes(text.replace(/\r?\n/g, '\r')).filter((code) => code < 128 && (code >= 32 || code === 9 || code === 13 || code === 27));
-}
+// What is pasted: the end of a line is the key Return.
+const keysOfText = (text) => codes(text.replace(/\r?\n/g, '\r'));
+
+// The characters of a text that have no key on this keyboard, each once.
+const KEYLESS = /[^\t\n\r\x1b -~]/gu, keylessIn = (text) => [...new Set(text.match(KEYLESS))];

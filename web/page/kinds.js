@@ -1,6 +1,8 @@
 // What a file is that was dropped or picked, by what is in it, by its size and by its name; of a line and of a tape the console is asked:
-//   await kindOf('diag.ptap', bytes, async (line, bytes) => ..)   { kind: 'script' }, 'tape', 'pack' or 'packed' (a session in one file); { kind: 'pack', doubt: '..' } is to be asked, and
+//   await kindOf('diag.ptap', bytes, async (line, bytes) => ..)   { kind: 'script' }, 'tape', 'pack' or 'packed' (a session in one file);
+//                                { kind: 'pack', doubt: '..' } is to be asked, and
 //                                { refused: 'picture.png is a PNG picture, and no pack, tape or script' } is to be said
+// What has the size of a pack is one, whatever it begins with, and so is what is dropped on a drive (imageOf).
 'use strict';
 
 const SECTOR_BYTES = 512, PACK_BYTES = 203 * 2 * 12 * SECTOR_BYTES, MOST_LEADER = 512;
@@ -16,6 +18,8 @@ const TAPE_NAME = /\.(tape|ptap|ptp|pt|bic|lda|abs)$/i, PACK_NAME = /\.(pack|rk0
 
 async function kindOf(file, bytes, answer) {
   if (/\.p11z$/i.test(file)) return { kind: 'packed' };
+  if (bytes.length === PACK_BYTES) return { kind: 'pack' };
+  if (/\.p11$/i.test(file) && isImage(bytes)) return { refused: noScript(file) };
   const other = OTHERS.find(([, from, mark]) => [...mark].every((c, at) => bytes[from + at] === c.charCodeAt(0)));
   if (other) return { refused: `${file} is ${other[0]}` };
   if (bytes.length === 0) return { refused: `${file} has no bytes` };
@@ -30,14 +34,27 @@ async function kindOf(file, bytes, answer) {
   return kindOfImage(file, bytes.length);
 }
 
+const counted = (size) => size.toLocaleString('en'), has = (file, size) => `${file} has ${counted(size)} bytes`;
+
 // A pack has whole sectors, and the size or the name of one.
 function kindOfImage(file, size) {
-  const told = `${file} has ${size.toLocaleString('en')} bytes`;
-  if (size > PACK_BYTES) return { refused: `${told}, and a pack of an RK05 has ${PACK_BYTES.toLocaleString('en')}` };
-  if (size % SECTOR_BYTES !== 0) return { kind: 'pack', doubt: `${told}, which aren't whole sectors of ${SECTOR_BYTES}` };
-  if (size === PACK_BYTES || PACK_NAME.test(file)) return { kind: 'pack' };
-  return { kind: 'pack', doubt: `${told}, and neither the size nor the name of a pack` };
+  const told = has(file, size);
+  if (size > PACK_BYTES && !PACK_NAME.test(file)) return { refused: `${told}, and a pack of an RK05 has ${counted(PACK_BYTES)}` };
+  if (size > PACK_BYTES) return imageOf(file, size);
+  if (size % SECTOR_BYTES !== 0) return { kind: 'pack', doubt: `${told}, which aren't whole sectors of ${SECTOR_BYTES}. Is it a pack?` };
+  if (PACK_NAME.test(file)) return { kind: 'pack' };
+  return { kind: 'pack', doubt: `${told}, and neither the size nor the name of a pack. Is it a pack?` };
 }
+
+// What is dropped on a drive: a pack, with a word on what a shorter one lacks; a longer one is cut, if that is wanted.
+function imageOf(file, size) {
+  if (size > PACK_BYTES) return { kind: 'pack', doubt: `${has(file, size)}, and a pack of an RK05 has ${counted(PACK_BYTES)}. Are the first of them the pack?` };
+  return { kind: 'pack', lacks: size < PACK_BYTES ? `it has ${counted(size)} bytes, and the other ${counted(PACK_BYTES - size)} read as zeros` : '' };
+}
+
+// A NUL in the first 4,096 bytes is no byte of a script.
+const isImage = (bytes) => bytes.subarray(0, 4096).includes(0);
+const noScript = (file) => `${file} has a NUL in its first 4,096 bytes, so it is an image and no script: drop it on a drive, and press Boot there`;
 
 // The beginning of a text, or null where there are bytes that no text has.
 function textIn(bytes) {

@@ -4,7 +4,7 @@
 // Where it talks, the machine's terminal comes behind the script: at a last line `continue`, and at a last remark `# talk`.
 'use strict';
 
-const RECORD = 'session.p11', TALKS = /^(?:continue \d+|# talk)\s*$(?![^])/m;
+const LINK = 'p11z=', MOST_LINK = 8192, RECORD = 'session.p11', TALKS = /^(?:continue \d+|# talk)\s*$(?![^])/m;
 
 function packedOf({ record, kwords, talks, files }) {
   const text = `# memory ${kwords}\n# ${globalThis.P11_MADE}\n${record}${talks ? '# talk\n' : ''}`;
@@ -22,6 +22,11 @@ async function unpacked(bytes) {
   if (kwords < 4 || kwords > 124 || kwords % 4 !== 0) throw new Error(`there is no machine of ${kwords} thousand words`);
   return { script: script.replace(TALKS, ''), kwords, talks: TALKS.test(script), files: files.filter((it) => it !== record) };
 }
+
+// A session in an address: base64 with - and _, which need no escape there.
+const base64Of = (bytes) => btoa(Array.from(bytes, (byte) => String.fromCharCode(byte)).join(''));
+const linkText = (bytes) => base64Of(bytes).replaceAll('+', '-').replaceAll('/', '_').replace(/=+$/, '');
+const bytesOfLink = (text) => Uint8Array.from(atob(text.replaceAll('-', '+').replaceAll('_', '/')), (c) => c.charCodeAt(0));
 
 // The program that was put into this page (web/with, or the button of another page), which it boots; null where none was.
 const lessonIn = () => {

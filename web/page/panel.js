@@ -9,7 +9,7 @@ const FLAGS = ['RUN', 'PROC', 'BUS', 'CONSOLE', 'USER', 'VIRTUAL'];
 
 class Panel {
   constructor(element) {
-    Object.assign(this, { element, switches: 0, address: 0, data: 0, last: '', isEnabled: true, lamps: null, spokenAt: 0 });
+    Object.assign(this, { element, switches: 0, address: 0, data: 0, last: '', isEnabled: true, isSetting: 0, lamps: null, spokenAt: 0 });
     this.rows = { address: this.lampRow('address', 18), data: this.lampRow('data', 16) };
     this.flags = FLAGS.map((name) => this.flag(name));
     this.switchRow();
@@ -74,7 +74,25 @@ class Panel {
     const isChanged = ((switches ^ this.switches) & 0o177777) !== 0;
     this.switches = switches;
     this.show();
-    if (isChanged) await this.desk.command(`switches ${octalOf(switches & 0o177777)}`, true);
+    if (!isChanged) return;
+    this.isSetting++;
+    await this.desk.command(`switches ${octalOf(switches & 0o177777)}`, true);
+    this.isSetting--;
+  }
+
+  // A new machine has all levers down, and isn't halted.
+  renew() {
+    Object.assign(this, { switches: 0, address: 0, data: 0, last: '' });
+    this.show();
+    this.enable(true);
+  }
+
+  // The levers are as the last line of the record that sets them, but for lines of their own that are on their way.
+  follow(lines) {
+    const line = lines.findLast((it) => it.startsWith('switches '));
+    if (!line || this.isSetting > 0) return;
+    this.switches = (this.switches & 0o600000) | parseInt(line.slice(9), 8);
+    this.show();
   }
 
   async press(key) {
@@ -123,11 +141,15 @@ class Panel {
     if (answer === 'OK\n' && this.isEnabled) await this.desk.talk();
   }
 
-  async toggle() {
-    this.isEnabled = !this.isEnabled;
+  enable(isEnabled) {
+    this.isEnabled = isEnabled;
     const key = this.element.querySelector('[data-key=halt]');
-    key.setAttribute('aria-checked', String(!this.isEnabled));
-    key.querySelector('b').textContent = this.isEnabled ? 'ENABLE' : 'HALT';
+    key.setAttribute('aria-checked', String(!isEnabled));
+    key.querySelector('b').textContent = isEnabled ? 'ENABLE' : 'HALT';
+  }
+
+  async toggle() {
+    this.enable(!this.isEnabled);
     if (!this.isEnabled) await this.desk.halt();
   }
 

@@ -9,14 +9,14 @@ const PLAIN = 0, BOLD = 1, UNDERLINE = 2, REVERSE = 4, MOST_GONE = 5000;
 
 class Screen {
   constructor(rows = 24, columns = 80) {
-    Object.assign(this, { rows, columns, bells: 0, gone: [], replies: [], sequences: new Sequences(this) });
+    Object.assign(this, { rows, columns, bells: 0, isWide: false, gone: [], replies: [], sequences: new Sequences(this) });
     this.reset();
   }
 
   reset() {
     Object.assign(this, {
       x: 0, y: 0, top: 0, bottom: this.rows - 1, style: PLAIN, saved: null,
-      isVt52: false, hasOrigin: false, wraps: true, showsCursor: true, cursorKeys: false, sets: ['B', 'B'], shift: 0,
+      isVt52: false, hasOrigin: false, wraps: true, showsCursor: true, cursorKeys: false, keypad: false, sets: ['B', 'B'], shift: 0,
     });
     this.stops = Array.from({ length: this.columns }, (_, x) => x % 8 === 0);
     this.cells = Array.from({ length: this.rows }, () => this.blank());
@@ -24,7 +24,7 @@ class Screen {
 
   // All that shows, as plain data; and the same again.
   picture() {
-    const { sequences: { screen, ...sequences }, bells, gone, replies, ...own } = this;
+    const { sequences: { screen, ...sequences }, bells, isWide, gone, replies, ...own } = this;
     return structuredClone({ own, sequences });
   }
 
@@ -44,7 +44,13 @@ class Screen {
 
   reply(text) { for (const c of text) this.replies.push(c.charCodeAt(0)); }
 
-  write(bytes) { for (const byte of bytes) this.sequences.put(byte & 0o177); }
+  // Of seven bits the eighth is parity, which isn't shown; of eight (isWide) a byte that has it is shown as its number.
+  write(bytes) {
+    for (const byte of bytes) {
+      if (this.isWide && byte > 127) for (const c of `<${byte.toString(16).toUpperCase()}>`) this.show(c);
+      else this.sequences.put(byte & 0o177);
+    }
+  }
 
   show(c) {
     const isGraphic = this.sets[this.shift] === '0' && c >= '`' && c <= '~';
@@ -88,6 +94,8 @@ class Screen {
       case '8': this.restore(this.saved ?? { ...this, x: 0, y: 0, style: PLAIN }); break;
       case 'c': this.reset(); break;
       case '<': this.isVt52 = false; break;
+      case '=': this.keypad = true; break;
+      case '>': this.keypad = false; break;
       default:
     }
   }

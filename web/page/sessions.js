@@ -30,7 +30,8 @@ class Sessions {
     app.hold(true);
     const opened = await app.link.ask('open', { module: app.module.slice(), kwords, past: app.past.slice(-MOST_PAST), ships: app.ships(), script, kept });
     if (!isLast()) return null;
-    app.panel.last = '';
+    app.panel.renew();
+    if (kept) app.panel.follow(kept.lines);
     if (app.screen.x > 0) app.say('\n');
     return Object.assign(isLast, opened);
   }
@@ -54,44 +55,89 @@ class Sessions {
       // the terminal makes the turns of a last line `continue`
       return { talks: entry.talk, script: entry.talk ? script.replace(/\ncontinue \d+\n$/, '\n') : script, files: entry.files.map((file, at) => ({ name: file, bytes: contents[at] })) };
     };
-    if (!await this.start({ kwords: 28, title: entry.title, shown: entry.script, load })) return;
+    app.view.follow();
+    if (!await this.start({ kwords: 28, title: entry.title, shown: entry.script, origin: `boot ${name}`, load })) return;
     app.note(`${entry.about} Type first: ${entry.first}`);
     app.focus();
   }
 
   // A session that is packed in one file.
-  async openPacked(name, bytes) {
+  async openPacked(name, bytes, origin) {
     const { app } = this;
     try {
       const packed = await unpacked(bytes);
-      await this.start({ kwords: packed.kwords, title: name, shown: nameFor(name, () => false), load: () => packed });
+      await this.start({ kwords: packed.kwords, title: name, shown: nameFor(name, () => false), origin, load: () => packed });
     } catch (error) {
       app.note(`${name} is no session: ${error.message}.`);
     }
   }
 
-  // A session of its own, on a new machine: files, and a script that comes first. Whether no other one was asked for meanwhile.
-  async start({ kwords, title, shown, load }) {
+  // A session of its own, on a new machine: files, and a script that comes first. Whether no other one was asked for meanwhile. Where it comes
+  // of an origin, the last session of that is offered.
+  async start({ kwords, title, shown, origin, load }) {
     const { app } = this, isLast = await this.open(kwords, { script: shown });
     if (!isLast) return false;
-    this.begin({ kwords, title });
+    this.begin({ kwords, title, origin });
     const { script, files, talks } = await load();
     for (const { name, bytes } of files) if (isLast()) await this.put(name, bytes);
     if (!isLast()) return false;
     await app.link.ask('put', { name: shown, bytes: Uint8Array.from(script, (c) => c.charCodeAt(0)) });
     if (isLast()) await this.go({ talks });
+    if (isLast() && origin) await this.offerLast(origin);
     return isLast();
   }
 
-  // The session that is open, in one file. Where the browser keeps nothing, its files are as the machine has them now.
-  async packed() {
+  // What a person did last in the same program is kept, and can be gone on with.
+  async offerLast(origin) {
+    const { app } = this, open = await Claim.all();
+    const last = (await app.store.list()).find((it) => it.origin === origin && it.isTouched && !open.has(Claim.name(it.id)));
+    if (last) app.offer(`Your last session of this, of ${timeOf(last.used)}, is kept.`, [['Go on with it', () => this.reopen(last.id)]]);
+  }
+
+  // Where there are many sessions, one can go: none does unasked.
+  async offerOldest() {
+    const { app } = this, { store } = app, { session, count } = await store.oldest() ?? {};
+    if (!session || app.offered) return;
+    app.offer(`${count} sessions are kept in this browser. The one that was used longest ago is ${nameOf(session)}, of ${timeOf(session.used)}.`, [
+      ['Download and forget it', async () => { await app.kept.exports(session); await store.forget(session.id); }],
+    ], () => { store.most = count + MOST_SESSIONS; }, 'Keep it');
+  }
+
+  // The session that is open, in one file, without the files of some names. Where the browser keeps nothing, its files are as the machine
+  // has them now.
+  async packed(without = []) {
     const { app } = this, record = await app.link.ask('record'), { session } = app.store;
     const there = async () => Promise.all((await app.link.ask('files')).map(async ([name]) => ({ name, bytes: await app.link.ask('file', { name }) })));
-    return packedOf({ record, kwords: this.kwords, talks: app.desk.isTalk, files: session ? await app.store.files(session.id) : await there() });
+    return packedOf({ record, kwords: this.kwords, talks: app.desk.isTalk, files: session ? await app.store.files(session.id, without) : await there() });
+  }
+
+  // The session that is open as a link, where it is small: without the files that ship with the page.
+  async toLink() {
+    const { app } = this, link = `${location.href.split('#')[0]}#${LINK}${linkText(await this.packed(app.ships()))}`;
+    const size = link.length - link.indexOf('#');
+    if (size > MOST_LINK) { app.note(`The session has ${counted(size)} characters as a link, and ${counted(MOST_LINK)} are the most: download it.`); return; }
+    const isCopied = await navigator.clipboard?.writeText(link).then(() => true, () => false);
+    app.note(isCopied ? `The link is copied; it has ${counted(size)} characters.` : link);
+  }
+
+  // A session that the page's address has in it: a person is asked first.
+  async fromLink() {
+    const { app } = this, [, text] = location.hash.split(LINK);
+    if (!text || !location.hash.startsWith(`#${LINK}`)) return;
+    try {
+      if (text.length > MOST_LINK) throw new Error('it is too long');
+      const bytes = bytesOfLink(text), { script, files, kwords } = await unpacked(bytes), lines = (script.match(/^[^#\n]/gm) ?? []).length;
+      const told = `This link has a session of ${counted(lines)} lines with ${counted(files.length)} files for a machine of ${kwords} thousand words.`;
+      const isWanted = await app.ask(told, 'Run it');
+      history.replaceState(null, '', location.pathname + location.search);   // it isn't asked again when the page is opened again
+      if (isWanted) await this.openPacked('A session in a link', bytes);
+    } catch (error) {
+      app.note(`The link has no session: ${error.message}.`);
+    }
   }
 
   // Keeps what is done from now on as a session of its own.
-  begin(facts) { this.app.store.begin(facts).then(() => this.app.kept.show()); }
+  begin(facts) { this.app.store.begin(facts).then(() => Promise.all([this.app.kept.show(), this.offerOldest()])); }
 
   // Puts a file into the store, and keeps it with the session.
   async put(name, bytes) {
@@ -138,14 +184,14 @@ class Sessions {
   }
 
   // What a session that goes on shows.
-  goOn({ session, pages, lines }, { isRevived, lines: count }, { typed, turns }) {
+  goOn({ session, pages }, { isRevived, isScripted }, { typed, turns }) {
     const { app } = this;
     if (isRevived) app.screen.showAgain(pages.head.screen);
     for (const bytes of typed) app.screen.write(bytes);
     app.screen.takeReplies();
     if (app.screen.x > 0) app.say('\n');
     app.say(`(The session goes on after ${turns.toLocaleString('en')} turns.)\n`);
-    if (count < lines.length) app.note('The script that was under way is done again from the last second on.');
+    if (isScripted) app.note('The script that was under way is done again from the last second on.');
     else if (turns !== session.turns) app.note(`The record came to ${turns} turns, and the session had ${session.turns}.`);
     app.setClock(session.hertz ?? 0);
     app.setPace(session.pace ?? 0);
@@ -184,14 +230,19 @@ class Sessions {
 
   // -- a file that was dropped or picked, for a drive where one is named
   async take(file, drive) {
-    const { app } = this, bytes = await contentOf(file);
-    if (app.desk.isHeld) { app.note(`${file.name} is left out: the machine isn't ready yet.`); return; }
-    if (!bytes) { app.note(`${file.name} can't be read: of a folder, drop the files that are in it.`); return; }
-    const { kind, doubt, refused } = await kindOf(file.name, bytes, (line, tape) => app.link.ask('answer', { line, bytes: tape }));
+    const { app } = this, { name, size } = file;
+    if (size > MOST_BYTES) { app.note(`${has(name, size)}: a file of more than ${counted(MOST_BYTES)} isn't read.`); return; }
+    const bytes = await contentOf(file);
+    if (app.desk.isHeld) { app.note(`${name} is left out: the machine isn't ready yet.`); return; }
+    if (!bytes) { app.note(`${name} can't be read: of a folder, drop the files that are in it.`); return; }
+    const asked = (line, tape) => app.link.ask('answer', { line, bytes: tape });
+    const { kind, doubt, refused, lacks } = drive === undefined ? await kindOf(name, bytes, asked) : imageOf(name, size);
     if (refused) { app.note(`${refused}.`); return; }
-    if (doubt && !await app.ask(`${doubt}. Is it a pack?`, 'Mount it')) { app.note(`${file.name} is left out.`); return; }
-    if (kind === 'packed') { await this.openPacked(file.name, bytes); return; }
-    await (kind === 'script' ? this.play(file.name, bytes) : this.use(file.name, bytes, kind, drive));
+    if (doubt && !await app.ask(doubt, 'Mount it')) { app.note(`${name} is left out.`); return; }
+    if (kind === 'packed') { await this.openPacked(name, bytes); return; }
+    if (kind === 'script') { await this.play(name, bytes); return; }
+    const isTaken = await this.use(name, kind === 'pack' && size > PACK_BYTES ? bytes.slice(0, PACK_BYTES) : bytes, kind, drive);
+    if (isTaken && lacks) app.note(`${name} is mounted on drive ${drive}: ${lacks}.`);
   }
 
   // A script is no file of the session: its lines are in the record.
@@ -228,6 +279,7 @@ class Sessions {
     }
     const bytes = await Shelf.bytes(name).catch(() => null);
     if (!bytes) app.note(`${name} isn't there.`);
+    else if (kind === 'script' && isImage(bytes)) app.note(`${noScript(file)}.`);
     else if (kind === 'script') await this.play(file, bytes);
     else if (await this.use(file, bytes, kind, 0)) await app.drives.boot(0);
   }

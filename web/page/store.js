@@ -2,12 +2,16 @@
 // put into it, and the pages of its module's memory, by which it is back at once, in IndexedDB. Other sessions stay kept beside it.
 //   const store = await Store.open(); store.begin({ kwords: 28 }); store.add(..); await store.last; await store.list();
 // Where the browser refuses it, store.refused says why, and nothing more is kept until a session begins that can be.
+// Kept is what `change` has come back for: the browser has it then, also where the page is closed or the browser is killed at once; where
+// the power goes, the last seconds may be lost. So the page shows what the console says of a line once that line is kept. Not kept are a
+// line that isn't entered, keys that wait, and of a run that goes on what was done in its last quarter of a second.
 'use strict';
 
-const MOST_SESSIONS = 20, MOST_LINES = 200, TABLES = ['sessions', 'lines', 'files', 'pages'], HEAD = -2;
+const MOST_SESSIONS = 20, MOST_UNTOUCHED = 5, MOST_LINES = 200, PATIENCE_MS = 4000, SILENT = "its storage doesn't answer", TABLES = ['sessions', 'lines', 'files', 'pages'], HEAD = -2;
 const NO_SESSION = 0, FULL_LOG = 160, ROW_BYTES = 32768;   // the number that no session has; rows of it that fill a log of Chromium's (4 MB)
 const ofSession = (id) => IDBKeyRange.bound([id], [id, []]);
 
+const pause = (ms) => new Promise((done) => { setTimeout(done, ms); });
 const wait = (request) => new Promise((done, fail) => {
   request.onsuccess = () => done(request.result);
   request.onerror = () => fail(request.error);
@@ -36,7 +40,11 @@ class Store {
   static async open() {
     const store = new Store();
     try {
-      store.db = await opened((why) => { store.loss = why; });
+      const there = opened((why) => { store.loss = why; }).then((db) => Object.assign(store, { db }));
+      if (!await Promise.race([there, pause(PATIENCE_MS)])) {
+        store.late = there.then(() => store.onrefused(store.refused = ''));
+        throw new Error(SILENT);
+      }
       store.db.onversionchange = () => store.db.close();
     } catch (error) {
       store.refuse(error);
@@ -46,7 +54,11 @@ class Store {
 
   constructor() {
     this.db = null;
-    this.session = null;      // { id, name, begun, used, kwords, steps, turns, count, bytes, isTalking }; count is that of lines
+    this.late = null;         // what waits for a database that the browser was slow to open
+    this.session = null;      // { id, name, begun, used, kwords, steps, turns, count, bytes, isTalking, origin, isTouched }; count is that of lines
+    this.isTouched = false;   // whether a person did something in it; origin is what it was booted of
+    this.isSilent = false;    // whether it is told that the browser doesn't answer
+    this.most = MOST_SESSIONS;   // how many sessions there are before it is asked about the oldest
     this.row = null;          // the last row of its lines
     this.claim = null;
     this.refused = '';
@@ -72,6 +84,7 @@ class Store {
   // Where it is refused something else may be done in its place.
   async attempt(work, otherwise) {
     if (!this.db) return undefined;
+    const patience = setTimeout(() => { this.isSilent = true; this.onrefused(SILENT); }, PATIENCE_MS);
     try {
       const all = this.db.transaction(TABLES, 'readwrite', { durability: 'relaxed' });
       const table = (name) => all.objectStore(name);
@@ -84,6 +97,10 @@ class Store {
       if (otherwise) return this.attempt(otherwise);
       this.refuse(error);
       return undefined;
+    } finally {
+      clearTimeout(patience);
+      if (this.isSilent) this.onrefused(this.refused);
+      this.isSilent = false;
     }
   }
 
@@ -97,18 +114,18 @@ class Store {
     this.change((table) => { table('pages').delete(ofSession(NO_SESSION)); }, otherwise);
   }
 
-  // A new session. Those that nothing was done in go, and where there are too many the oldest that have no name of their own;
-  // none that a tab has.
+  // A new session. Those that nothing was done in go, and of those that were booted and left alone all but the last; none that has a name
+  // of its own, or that a tab has. What a person did stays: of the oldest the memory's pages go, which the record makes again.
   begin(facts) {
+    this.isTouched = false;
     this.last = this.last.then(async () => {
       this.hold(null);
       const open = await Claim.all(), now = Date.now();
       await this.attempt(async (table) => {
         this.session = null;
-        const all = (await wait(table('sessions').getAll())).filter(({ id }) => !open.has(Claim.name(id)));
-        const isEmpty = ({ turns, count, bytes }) => turns === 0 && count === 0 && bytes === 0;
-        const old = all.filter((it) => !isEmpty(it) && !it.name).toSorted(byUse).slice(MOST_SESSIONS - 1);
-        for (const { id } of [...all.filter(isEmpty), ...old]) this.drop(table, id);
+        const all = (await wait(table('sessions').getAll())).filter(({ id, name }) => !open.has(Claim.name(id)) && !name).toSorted(byUse);
+        for (const { id } of [...all.filter(isEmpty), ...all.filter(isUntouched).slice(MOST_UNTOUCHED)]) this.drop(table, id);
+        for (const { id } of all.filter(isWork).slice(MOST_SESSIONS)) table('pages').delete(ofSession(id));
         const session = { name: '', begun: now, used: now, steps: 0, turns: 0, count: 0, bytes: 0, isTalking: false, ...facts };
         session.id = await wait(table('sessions').add(session));
         this.session = session;
@@ -118,6 +135,19 @@ class Store {
       if (this.session) this.hold(await this.claimOf(this.session.id));
     });
     return this.last;
+  }
+
+  // The session that was used longest ago, and how many there are, where they are too many; none that has a name, or that a tab has.
+  async oldest() {
+    const open = await Claim.all(), all = (await this.list()).filter((it) => isWork(it) && !it.name && !open.has(Claim.name(it.id)));
+    return all.length > this.most ? { session: all.at(-1), count: all.length } : null;
+  }
+
+  // A person does something in the session.
+  touch() {
+    if (this.isTouched) return;
+    this.isTouched = true;
+    this.note({ isTouched: true });
   }
 
   // The claim of this tab to a session; null where another one has it.
@@ -213,6 +243,7 @@ class Store {
 
   // Goes on with a kept session, whose lines become one row.
   resume({ session, lines }) {
+    this.isTouched = false;
     return this.change((table) => {
       this.session = Object.assign(session, { used: Date.now(), count: lines.length, bytes: session.bytes ?? 0 });
       this.row = null;
@@ -240,4 +271,7 @@ class Store {
   }
 }
 
+const isEmpty = ({ turns, count, bytes }) => turns === 0 && count === 0 && bytes === 0;
+const isUntouched = ({ origin, isTouched }) => Boolean(origin) && !isTouched;
+const isWork = (it) => !isEmpty(it) && !isUntouched(it);
 const byUse = (one, other) => (other.used ?? 0) - (one.used ?? 0) || other.id - one.id;

@@ -2,12 +2,12 @@
 //   const view = new View(screen, element); view.paint();   once a frame
 'use strict';
 
-const PIECE_LINES = 200, MOST_PIECES = 25;
+const PIECE_LINES = 200, MOST_PIECES = 25, MARGIN = 6;
 const CLASSES = ['', 'bold', 'underline', 'bold underline', 'reverse', 'bold reverse', 'underline reverse', 'bold underline reverse'];
 
 class View {
   constructor(screen, element) {
-    Object.assign(this, { screen, element, shown: '', isFollowing: true });
+    Object.assign(this, { screen, element, shown: '', isFollowing: true, isSeen: false, pageTop: 0 });
     this.back = element.querySelector('.back');
     this.now = element.querySelector('.now');
     this.spoken = element.querySelector('.spoken');
@@ -25,10 +25,17 @@ class View {
       this.top = scrollTop;
     });
     new ResizeObserver(() => { if (this.isFollowing) this.toEnd(); }).observe(element);
+    // In the window the cursor is kept in sight behind a key, until one goes to another part or scrolls there.
+    addEventListener('focusin', ({ target }) => { if (!element.contains(target)) this.isSeen = false; });
+    addEventListener('scroll', () => { if (Math.abs(scrollY - this.pageTop) > 1) this.isSeen = false; });
+    for (const it of [globalThis, visualViewport]) it.addEventListener('resize', () => this.toSight());
   }
 
   // Follows what comes, also where one has scrolled back.
-  follow() { this.isFollowing = true; }
+  follow() {
+    this.isFollowing = this.isSeen = true;
+    this.toSight();
+  }
 
   paint() {
     const gone = this.screen.takeGone();
@@ -40,6 +47,18 @@ class View {
     const last = Math.max(y, cells.findLastIndex((row) => flat(row).trimEnd() !== ''));
     this.now.replaceChildren(...cells.slice(0, last + 1).map((row, at) => this.line(row, at === y && showsCursor ? x : -1)));
     if (this.isFollowing) this.toEnd();
+    this.toSight();
+  }
+
+  // Scrolls the window as far as the screen needs, or where the window is too low for it the cursor.
+  toSight() {
+    const cursor = this.now.querySelector('.cursor');
+    if (!this.isSeen || !cursor) return;
+    const height = visualViewport.height - 2 * MARGIN, whole = this.element.getBoundingClientRect();
+    const { top, bottom } = whole.height <= height ? whole : cursor.getBoundingClientRect();
+    const by = Math.min(top - MARGIN, Math.max(0, bottom - MARGIN - height));
+    if (by !== 0) scrollBy(0, by);
+    this.pageTop = scrollY;
   }
 
   // What stands in a line: runs of the same style, and the cursor.
